@@ -7,8 +7,11 @@ use mathlib.Core.Path.{◌≡◌, refl, sym, ap, ◌∙◌}
 use native.Mathlib.Omega.{arith}
 use native.Mathlib.Numerals.{add-one}
 use lib.Dec.{eqb, ltb}
-use lib.ListN.{length, take, drop, set, get_or, length-drop, length-append, take-append-drop}
-use lib.Seq.{paste, paste-suc, get_or-drop, take-paste, drop-paste, drop-drop, length-take-le}
+use lib.ListN.{length, take, drop, length-drop, length-append, take-append-drop}
+use borrow.Rule.Slice.PartMut.{put_mid}
+use Rattle.std.proofs.lemmas.List.{take-take}
+use Rattle.std.proofs.lemmas.Slice.{put_mid-paste}
+use lib.Seq.{paste, take-paste, drop-paste, drop-drop, length-take-le}
 use borrow.Author.Tests.{eq-eqb, ne_eqb, lt-ltb, le-ltb, not-true, not-false}
 use Rattle.paper_lower.specs.Lists.{each}
 use Rattle.paper_lower.specs.Checks.{SHAPE, granted}
@@ -16,9 +19,11 @@ use Rattle.paper_lower.specs.Records.{Bytes}
 use Rattle.paper_lower.specs.Tables.{Policy}
 use Rattle.paper_lower.specs.Load.{policy_answer}
 use Rattle.paper_lower.specs.Mend.{Mended, dropped, keeping, dropping, mend_from}
-use Rattle.replies.specs.Replies.{Reply, number_of}
+use Rattle.std.specs.Prelude.{Ok, Err}
+use Rattle.replies.specs.Replies.{Reply, number_of, refusal_number}
+use Rattle.replies.specs.declared.Refusal.{Refusal}
 use Rattle.replies.specs.Done.{Done}
-use Rattle.replies.proofs.ReplyLaws.{is_zero, not-zero}
+use Rattle.replies.proofs.ReplyLaws.{not-granted}
 use Rattle.replies.proofs.DoneLaws.{granted-old}
 use Rattle.policy.specs.Reading.{policy_of}
 use Rattle.policy_mending.specs.declared.Dropped.{Dropped}
@@ -65,38 +70,37 @@ module _ (kept : ℕ) (out r : Bytes) (h : 16 * kept + 16 ≤ length out) (l : 1
   keeps x = λ i. record { kept = counts x.written i; output = lays x.written i; report = entries x.report; tables = x.tables }
 
 -- ---- One turn of the loop: the record is kept and the rest is the same, or it is refused and `next` returns.
-module _ (i k : ℕ) (s out : Bytes) (p : List ℕ) (out' : Bytes) (p' : List ℕ) (r : Reply) {b : Bool} (h : i < length s / 16) (f : k ≤ i) (room : length s ≤ length out)
-    (d : Kept s (16 * i) out (16 * (i - k)) p out' p' r) (a : b ≡ eqb (number_of r) 0) where
-  pub goes_on : not b ≡ false → rest_from (i + 1) k s out' (policy_of p') ≡ rest_from i k s out (policy_of p)
+module _ (i k : ℕ) (s out : Bytes) (p : List ℕ) (out' : Bytes) (p' : List ℕ) (h : i < length s / 16) (f : k ≤ i) (room : length s ≤ length out) where
+  pub goes_on : {u : Unit {0}} → Kept s (16 * i) out (16 * (i - k)) p out' p' (Ok u) → rest_from (i + 1) k s out' (policy_of p') ≡ rest_from i k s out (policy_of p)
   unfolding rest_from
-  goes_on n =
-      let z : number_of r ≡ 0 = is_zero r a (not-false b n) in
-      let q : (policy_answer (policy_of p) (take 16 (drop (16 * i) s))).reply ≡ 0 = sym d.judged.replies ∙ z in
+  goes_on d =
+      let q : (policy_answer (policy_of p) (take 16 (drop (16 * i) s))).reply ≡ 0 = sym d.judged.replies in
       let t : policy_of p' ≡ (policy_answer (policy_of p) (take 16 (drop (16 * i) s))).tables = rw q at d.judged.tables in
-      let w : out' ≡ paste out (16 * (i - k)) (drop (16 * i) s) 16 = rw z at d.written in
+      let w : out' ≡ paste out (16 * (i - k)) (drop (16 * i) s) 16 = d.written in
       let e : i + 1 - k ≡ suc (i - k) = omega arith in
       let o = one i s (policy_of p) h in
       let g : rest_of i s (policy_of p) ≡ keeping (take 16 (drop (16 * i) s)) (rest_of (suc i) s (policy_of p')) = rw (q, ← t) at o in
       let m : 16 ≤ length (drop (16 * i) s) = let v = length-drop (16 * i) s in omega arith in
       sym (ap (rest_by (i - k) out) g ∙ keeps (i - k) out (drop (16 * i) s) (omega arith) m (rest_of (suc i) s (policy_of p')) ∙ rw (w, e, add-one))
 
-  pub stops : not b ≡ true → Found i k s out (policy_of p) out' (policy_of p') (record { place = i + 1; reply = number_of r })
+  pub stops : {r : Refusal} → Kept s (16 * i) out (16 * (i - k)) p out' p' (Err r) →
+      Found i k s out (policy_of p) out' (policy_of p') (record { place = i + 1; reply = refusal_number r })
   unfolding rest_from told each
-  stops n =
-      let z : number_of r ≡ 0 → ⊥ = not-zero r a (not-true b n) in
+  stops {r} d =
+      let z : refusal_number r ≡ 0 → ⊥ = not-granted r in
       let pe : p' ≡ p = d.judged.kept z in
-      let w : out' ≡ out = d.written ∙ sym (granted-old (paste out (16 * (i - k)) (drop (16 * i) s) 16) out (number_of r) z) in
+      let w : out' ≡ out = d.written ∙ sym (granted-old (paste out (16 * (i - k)) (drop (16 * i) s) 16) out (refusal_number r) z) in
       let e : i + 1 - suc k ≡ i - k = omega arith in
-      let o : rest_of i s (policy_of p) ≡ granted (number_of r)
+      let o : rest_of i s (policy_of p) ≡ granted (refusal_number r)
       (keeping (take 16 (drop (16 * i) s)) (rest_of (suc i) s (policy_answer (policy_of p) (take 16 (drop (16 * i) s))).tables))
-      (dropping (dropped (suc i) (number_of r)) (rest_of (suc i) s (policy_of p))) = rw d.judged.replies (one i s (policy_of p) h) in
-      let g : rest_of i s (policy_of p) ≡ dropping (dropped (suc i) (number_of r)) (rest_of (suc i) s (policy_of p)) =
+      (dropping (dropped (suc i) (refusal_number r)) (rest_of (suc i) s (policy_of p))) = rw d.judged.replies (one i s (policy_of p) h) in
+      let g : rest_of i s (policy_of p) ≡ dropping (dropped (suc i) (refusal_number r)) (rest_of (suc i) s (policy_of p)) =
       o ∙ sym (granted-old (keeping (take 16 (drop (16 * i) s)) (rest_of (suc i) s (policy_answer (policy_of p) (take 16 (drop (16 * i) s))).tables))
-      (dropping (dropped (suc i) (number_of r)) (rest_of (suc i) s (policy_of p))) (number_of r) z) in
+      (dropping (dropped (suc i) (refusal_number r)) (rest_of (suc i) s (policy_of p))) (refusal_number r) z) in
       record {
         rest =
             sym (granted-old (over (i + 1) out' (policy_of p'))
-            (before (record { place = i + 1; reply = number_of r }) (rest_by (i + 1 - suc k) out' (rest_of (i + 1) s (policy_of p')))) (number_of r) z)
+            (before (record { place = i + 1; reply = refusal_number r }) (rest_by (i + 1 - suc k) out' (rest_of (i + 1) s (policy_of p')))) (refusal_number r) z)
             ∙ rw (pe, w, e, add-one) (sym (ap (rest_by (i - k) out) g));
         ahead = λ _. (omega arith, omega arith);
       }
@@ -153,25 +157,23 @@ module _ (k : ℕ) (s out : Bytes) (t : Policy) where
         ahead = λ _. (omega arith, omega arith);
       }
 
--- ---- One turn of the loop of `copy`.
-pub one_byte : (out₀ out : Bytes) (to at i : ℕ) (s : Bytes) → to + i < length out₀ → at + i < length s → out ≡ paste out₀ to (drop at s) i
-    → set out (to + i) (get_or s (at + i) 0) ≡ paste out₀ to (drop at s) (i + 1)
-one_byte out₀ out to at i s h l e =
-    let v = length-drop at s in
-    let j : i < length (drop at s) = omega arith in
-    ap (λ (x : Bytes). set x (to + i) (get_or s (at + i) 0)) e ∙ rw (← get_or-drop at s i 0, add-one) (paste-suc out₀ to (drop at s) i 0 h j)
-
 -- ---- The returns of `keep`. k is the length of the part of the bytes that was passed.
-module _ (s : Bytes) (at : ℕ) (out : Bytes) (to : ℕ) (p p' : List ℕ) (k : ℕ) (r : Reply) {b : Bool} (k16 : k ≡ 16)
-    (d : Done policy_of (policy_answer (policy_of p) (take k (drop at s))).reply (policy_answer (policy_of p) (take k (drop at s))).tables p p' r) (a : b ≡ eqb (number_of r) 0) where
-  whole-record : Done policy_of (policy_answer (policy_of p) (take 16 (drop at s))).reply (policy_answer (policy_of p) (take 16 (drop at s))).tables p p' r
-  whole-record = rw k16 at d
+module _ (s : Bytes) (at : ℕ) (out : Bytes) (to : ℕ) (p p' : List ℕ) (k : ℕ) (k16 : k ≡ 16) where
+  pub not-kept : {e : Refusal} → Done policy_of (policy_answer (policy_of p) (take k (drop at s))).reply (policy_answer (policy_of p) (take k (drop at s))).tables p p' (Err e) →
+      Kept s at out to p out p' (Err e)
+  not-kept {e} d = record { judged = rw k16 at d; written = granted-old (paste out to (drop at s) 16) out (refusal_number e) (not-granted e) }
 
-  pub not-kept : not b ≡ true → Kept s at out to p out p' r
-  not-kept n = record { judged = whole-record; written = granted-old (paste out to (drop at s) 16) out (number_of r) (not-zero r a (not-true b n)) }
+  -- The sixteen bytes as they were written.
+  sixteen : (j : ℕ) → j ≡ 16 → at + 16 ≤ length s → put_mid to j out (take k (drop at s)) ≡ paste out to (drop at s) 16
+  sixteen j e h =
+      let few : length (take 16 (drop at s)) ≡ 16 = length-take-le 16 (drop at s) (let v = length-drop at s in omega arith) in
+      put_mid-paste to j out (take k (drop at s)) (take 16 (drop at s)) 16 (ap (λ (n : ℕ). take n (drop at s)) k16) (sym e) (sym few)
+      ∙ ap (λ (x : Bytes). take to out ++ x ++ drop (to + 16) out) (take-take 16 16 (drop at s) (omega arith))
 
-  pub is-kept : {out' : Bytes} → not b ≡ false → out' ≡ paste out to (drop at s) 16 → Kept s at out to p out' p' r
-  is-kept n e = let z : number_of r ≡ 0 = is_zero r a (not-false b n) in record { judged = whole-record; written = rw z e }
+  pub is-kept : {u : Unit {0}} (w : Bytes) (j : ℕ) → w ≡ take k (drop at s) → j ≡ 16 → at + 16 ≤ length s →
+      Done policy_of (policy_answer (policy_of p) (take k (drop at s))).reply (policy_answer (policy_of p) (take k (drop at s))).tables p p' (Ok u) →
+      Kept s at out to p (put_mid to j out w) p' (Ok u)
+  is-kept w j e j16 h d = record { judged = rw k16 at d; written = ap (put_mid to j out) e ∙ sixteen j j16 h }
 
 -- If the rest from i on is that from `place` on, then what was found from i on answers for `place`.
 pub onto : {i place k : ℕ} {s out out₀ out' : Bytes} {t t₀ t' : Policy} {d : Dropped} → rest_from i k s out t ≡ rest_from place k s out₀ t₀ →

@@ -1,9 +1,7 @@
 // Repairs a damaged policy file (02, Ask 12), in steps that each end at the next refused record.
 #![tactic(auto)]
 
-ghost use Rattle.std.specs.Prelude.{◌≡◌, ◌+◌, ◌≤◌, length, drop};
-ghost use Rattle.std.proofs.Math.Seq.{paste};
-ghost use Rattle.policy.specs.Layout.{policy_words};
+ghost use Rattle.std.specs.Prelude.{◌+◌, ◌≤◌, length};
 ghost use Rattle.policy.specs.Reading.{policy_of};
 ghost use Rattle.policy_mending.specs.Rest.{Kept, Ready, Found};
 
@@ -18,24 +16,14 @@ pub struct Dropped {
     pub reply: u64,
 }
 
-// Copies sixteen bytes from index `at` of the input to index `to` of the output.
-fn copy(input: &[u8], at: usize, output: &mut [u8], to: usize)
-    requires { (at + 16 ≤ length input.now) × (to + 16 ≤ length output.old) }
-    ensures { output.new ≡ paste output.old to (drop at input.now) 16 }
-{
-    for i in 0..16 {
-        output[to + i] = input[at + i];
-    }
-}
-
 // Carries out one record and copies it to the output if it is accepted.
 fn keep(input: &[u8], at: usize, output: &mut [u8], to: usize, p: &mut PolicyBuffer) -> Reply
     requires { (at + 16 ≤ length input.now) × (to + 16 ≤ length output.old) }
     ensures { Kept input.now at output.old to p.old output.new p.new result }
 {
-    let end = at + 16;
-    policy_loading::record(&input[at..end], p)?;
-    copy(input, at, output, to);
+    let record = &input[at..at + 16];
+    policy_loading::record(record, p)?;
+    output[to..to + 16].copy_from_slice(record);
     Ok(())
 }
 
@@ -52,31 +40,29 @@ pub fn next(
     ensures { Found place dropped input.now output.old (policy_of p.old) output.new (policy_of p.new) result }
 {
     let whole = input.len() / 16;
-    let mut i = place as usize;
-    if whole < i {
+    let first = place as usize;
+    if whole < first {
         return Dropped {
-            place: (i - dropped) as u64,
+            place: (first - dropped) as u64,
             reply: 0,
         };
     }
-    while i < whole {
-        let x = keep(input, 16 * i, output, 16 * (i - dropped), p);
-        i += 1;
-        if x.is_err() {
+    for i in first..whole {
+        if let Err(refusal) = keep(input, 16 * i, output, 16 * (i - dropped), p) {
             return Dropped {
-                place: i as u64,
-                reply: replies::number(x),
+                place: i as u64 + 1,
+                reply: u64::from(refusal),
             };
         }
     }
-    if 16 * i < input.len() {
+    if 16 * whole < input.len() {
         return Dropped {
-            place: i as u64 + 1,
-            reply: replies::number(Err(Refusal::Shape)),
+            place: whole as u64 + 1,
+            reply: u64::from(Refusal::Shape),
         };
     }
     Dropped {
-        place: (i - dropped) as u64,
+        place: (whole - dropped) as u64,
         reply: 0,
     }
 }
