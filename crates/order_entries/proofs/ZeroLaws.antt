@@ -1,9 +1,8 @@
 -- A buffer of zeros reads as no orders.
-use Prim.Native.Nat.{ℕ, zero, suc, ◌≤◌}
-use mathlib.Core.List.{List, [], ◌++◌, append-nil}
+use Prim.Native.Nat.{ℕ, zero, suc}
+use mathlib.Core.List.{List, []}
 use mathlib.Core.Path.{◌≡◌, refl, ◌∙◌, fun_ext}
-use native.Mathlib.Omega.{arith}
-use lib.ListN.{length, get_or, drop, replicate, length-replicate, drop_of_length-le}
+use lib.ListN.{get_or, replicate, length-replicate}
 use Rattle.paper_upper.specs.Orders.{Entry, no_orders}
 use Rattle.replies.proofs.CellLaws.{zeros-at}
 use Rattle.order_links.specs.Chains.{orders_words, entries_in, joined}

@@ -1,14 +1,14 @@
 // The ledger: the open instances and all their entries, on top of the links of the orders buffer. Each function equals its definition in paper_upper, on the
-// tables that a sound buffer reads as (specs/Reading). No function requires sound links: on any content of the right length each stays within the buffer and
-// ends, and it equals its definition if the links are sound.
+// tables that a sound buffer reads as (specs/Reading). No function requires sound links: on any content each stays within the buffer and ends, and it equals
+// its definition if the links are sound.
 #![tactic(auto)]
 
-ghost use Rattle.std.specs.Prelude.{◌≡◌, ◌+◌, ◌<◌, length, true, false, cond, ◌&&◌};
+ghost use Rattle.std.specs.Prelude.{◌≡◌, ◌<◌, length, true, false, ◌&&◌};
 ghost use Rattle.paper_lower.specs.Lists.{there, some, many};
 ghost use Rattle.paper_lower.specs.Lists.Maybe.{just};
 ghost use Rattle.paper_upper.specs.Orders.{is_held, is_held_by, are_in_order, held_of};
 ghost use Rattle.paper_upper.specs.Questions.{figures_of};
-ghost use Rattle.order_links.specs.Chains.{orders_words, mark_of, user_of, task_of, done_bit, sound_of};
+ghost use Rattle.order_links.specs.Chains.{mark_of, user_of, task_of, done_bit, sound_of};
 ghost use Rattle.order_entries.specs.Reading.{Cleared, orders_of, with_instance, opened_of, in_open_order, key_of, fits, any_in, any_up_to};
 ghost use Rattle.order_entries.specs.Acts.{InLimits, after_enter, after_release, after_finish, after_end, Acts, Enters, Tried};
 ghost use Rattle.order_entries.specs.Gathering.{gathered_of, taken_within, kept};
@@ -27,6 +27,7 @@ pub struct Instance {
 }
 
 // Instance i.
+#[tactic(auto, unfolding(crate::specs::Reading::orders_of, order_links::specs::Chains::template_at))]
 pub fn opened(o: &OrdersBuffer, i: u64) -> Instance
     requires { i < 64 }
     ensures { (opened_of result ≡ (orders_of o.now).opened i) × (result.template < 16) }
@@ -67,6 +68,7 @@ pub struct Gathered {
 }
 
 // Adds one entry of the instance, without a branch. The done tasks are not changed: they are read from the kept set.
+#[tactic(auto, unfolding(crate::specs::Gathering::taken_within))]
 fn take_in(g: Gathered, w: EntryWord, u: u64, t: u64) -> Gathered
     requires { g.times < 4096 }
     ensures { result ≡ taken_within u t (user_of w.bits) (task_of w.bits) (done_bit w.bits) g }
@@ -143,6 +145,7 @@ fn half_fits(w: EntryWord, mask: u32, key: u32) -> bool
 
 // Whether some entry up to the mark has a word that equals the key under the mask. It goes through the words in order and not along the links, without an
 // early exit, so that the compiler can vectorise it.
+#[tactic(auto, unfolding(paper_lower::specs::Lists::some_number_below))]
 fn any(o: &OrdersBuffer, mask: u32, key: u32) -> bool
     ensures { sound_of o.now ≡ true → result ≡ any_up_to o.now (mark_of o.now) mask key }
 {

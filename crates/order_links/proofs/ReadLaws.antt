@@ -11,7 +11,7 @@ use Rattle.paper_lower.specs.Sets.{has}
 use Rattle.paper_lower.specs.Lists.{holds, there}
 use Rattle.paper_lower.specs.Lists.Maybe.{none, just}
 use Rattle.paper_lower.proofs.ListLaws.{or-true}
-use Rattle.order_links.specs.Chains.{open_of, template_in, template_at, done_word, is_read_as, chain_word, count_of}
+use Rattle.order_links.specs.Chains.{open_of, template_at, done_word, is_read_as, chain_word, count_of}
 
 pub read_past : (l : List ℕ) (i : ℕ) → 63 < i → is_read_as l i ≡ true
 unfolding is_read_as
@@ -106,13 +106,3 @@ there-open l i h = rw (lt-ltb i 64 h) (go (has (open_of l) i))
     go : (b : Bool) → there (cond b (just (get_or l (2 + i) 0 % 16)) none) ≡ b
     go true = refl
     go false = refl
-
--- What the code reads of an instance, whether it is open and its template, is the template of the definition.
-pub template-is : (l : List ℕ) (i : ℕ) → i < 64 → cond (has (open_of l) i) (just (template_in l i)) none ≡ template_at l i
-unfolding template_at
-template-is l i h = rw (lt-ltb i 64 h)
-
--- The kept set that the code reads, 0 for a closed instance.
-pub done-is : (l : List ℕ) (i : ℕ) → cond (has (open_of l) i) (get_or l (132 + i) 0) 0 ≡ done_word l i
-unfolding done_word
-done-is l i = refl

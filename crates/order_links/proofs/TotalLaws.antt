@@ -1,7 +1,7 @@
 -- The contracts of the functions on links for any content: what they store keeps
 -- the length, and for sound links it is what the other laws of this crate ask for.
 use Prim.Native.Nat.{ℕ, suc, ◌+◌, ◌*◌, ◌-◌, ◌%◌, ◌≤◌, ◌<◌}
-use mathlib.Core.Path.{◌≡◌, refl, sym, ap, subst, ◌∙◌}
+use mathlib.Core.Path.{◌≡◌, sym, ap, subst, ◌∙◌}
 use mathlib.Core.Bool.{true}
 use mathlib.Core.List.{List}
 use native.Mathlib.Omega.{arith}
@@ -12,7 +12,7 @@ use Rattle.order_links.specs.Total.{Safe, Cuts, Frees, Drops}
 use Rattle.order_links.proofs.ReadLaws.{chain-read, read_some, read_past}
 use Rattle.order_links.proofs.ChainLaws.{linked-here}
 use Rattle.order_links.proofs.StackLaws.{popped-at, pushed_at, past-mark, cut-newest}
-use Rattle.order_links.proofs.CarryLaws.{carried, still-refl, still-step, count-step, off-free}
+use Rattle.order_links.proofs.CarryLaws.{carried, still-step, count-step, off-free}
 use Rattle.order_links.proofs.CutLaws.{cut_later, freed, Sifting, in-room, fewer-than, goes_on, takes_out}
 
 module _ (l : List ℕ) (room : length l ≡ orders_words) (i : ℕ) (hi : i ≤ 65) where
@@ -83,11 +83,6 @@ any-marked l room z = (
       subst (λ (n : ℕ). Taken l (set l 0 (n + 1)) (n + 1)) (sym n) (past-mark l room w m),
 )
 
-pub any-taken : (l l' : List ℕ) (k n : ℕ) → n ≡ count_of (chain_word l 64) → (n ≡ 0 → ⊥)
-    → Safe l l' k × (Woven l → 0 < count_of (chain_word l 64) → Popped l l' 64 k)
-    → Safe l l' k × (Woven l → (count_of (chain_word l 64) ≡ 0 → mark_of l < 2048) → Taken l l' k)
-any-taken l l' k n e some h = (h.0, λ w f. let p = h.1 w (omega arith) in record { loose = p.loose; beside = p.beside; others = p.others })
-
 pub any-freed : (l l₁ l₂ : List ℕ) (i kept q k p : ℕ) → i < 64 → Cuts l l₁ i kept q k
     → Safe l₁ l₂ k × (Loose l₁ k → is_read_as l₁ 64 ≡ true → Pushed l₁ l₂ 64 p) → Frees l l₂ i kept q k
 any-freed l l₁ l₂ i kept q k p hi a b = (
@@ -131,9 +126,6 @@ pub record Dropping (i : ℕ) (l₀ l : List ℕ) (n : ℕ) : Type 0 where
   pub still : Still i l₀ l
   pub count : n ≡ count_of (chain_word l i)
   pub aside : payloads_in l 65 ≡ payloads_in l₀ 65
-
-pub drop-begins : (i n : ℕ) (l : List ℕ) → n ≡ count_of (chain_word l i) → Woven l → Dropping i l l n
-drop-begins i n l e w = record { still = still-refl i l w; count = e; aside = refl }
 
 pub drops-on : (i : ℕ) (l₀ l l' : List ℕ) (n k p : ℕ) → i < 64 → n ≡ suc k → Dropping i l₀ l n → Drops i l l' p → Dropping i l₀ l' k
 drops-on i l₀ l l' n k p hi some s d =

@@ -1,17 +1,17 @@
 // The words of the orders buffer. The entries of each instance are linked in order of entry, the free entries are linked too, and the number of entries and
 // the done tasks of each instance are kept. The crate checks whether the links and figures of any content are sound, and changes the entries of one instance.
-// No function requires sound links: on any content of the right length each stays within the buffer and ends. What it does to the chains is promised for
-// sound links (specs/Acts, specs/Total).
+// No function requires sound links: on any content each stays within the buffer and ends. What it does to the chains is promised for sound links (specs/Acts,
+// specs/Total).
 #![tactic(auto)]
 
-ghost use Rattle.std.specs.Prelude.{◌≡◌, ◌+◌, ◌/◌, ◌%◌, ◌<◌, ◌≤◌, length, true, false, not, ◌&&◌, [], eqb, get_or};
+ghost use Rattle.std.specs.Prelude.{◌≡◌, ◌+◌, ◌%◌, ◌<◌, ◌≤◌, length, true, false, not, ◌&&◌, [], eqb, get_or};
 ghost use Rattle.paper_lower.specs.Sets.{has};
 ghost use Rattle.paper_lower.specs.Lists.{some_number_below, some, add, keep, each};
 ghost use Rattle.paper_lower.specs.Lists.Maybe.{none, just};
 ghost use Rattle.paper_upper.specs.Orders.{entry, held_of};
 ghost use Rattle.paper_upper.specs.Orders.Standing.{held};
 ghost use Rattle.paper_upper.specs.Requests.{turned};
-ghost use Rattle.order_links.specs.Chains.{orders_words, Counted, mark_of, open_of, template_in, template_at, done_word, is_read_as, chain_word, head_of, count_of, owner_of, link_of, user_of, task_of, done_bit, word_at, entries_in, astray, figures, chain_sound, sum_to, sound_of};
+ghost use Rattle.order_links.specs.Chains.{Counted, mark_of, open_of, template_in, template_at, done_word, is_read_as, chain_word, head_of, count_of, owner_of, link_of, user_of, task_of, done_bit, word_at, entries_in, astray, figures, chain_sound, sum_to, sound_of};
 ghost use Rattle.order_links.specs.Stacks.{payload_of, Woven, Loose, Popped, Pushed, Taken, turned_word};
 ghost use Rattle.order_links.specs.Acts.{Leaves, Acted};
 ghost use Rattle.order_links.specs.Total.{Safe, Cuts, Frees, Sifts, Drops, Empties, Turns};
@@ -178,6 +178,7 @@ impl EntryWord {
     }
 
     // The word, marked as done if it fits the key. The key is even because a held entry has 0 in the lowest bit of its payload.
+    #[tactic(auto, unfolding(crate::specs::Stacks::turned_word))]
     fn turned(self, key: u64) -> EntryWord
         requires { key % 2 ≡ 0 }
         ensures { result.bits ≡ turned_word key self.bits }
@@ -211,6 +212,7 @@ pub fn template(o: &OrdersBuffer, i: u64) -> u64
 }
 
 // The done tasks of instance i; none if it is closed.
+#[tactic(auto, unfolding(crate::specs::Chains::done_word))]
 pub fn done(o: &OrdersBuffer, i: u64) -> Set
     requires { i < 64 }
     ensures { result.bits ≡ done_word o.now i }
@@ -238,6 +240,7 @@ fn chain_at(o: &OrdersBuffer, i: u64) -> ChainWord
 }
 
 // The word of chain i, or 0 if i is a closed instance.
+#[tactic(auto, unfolding(crate::specs::Chains::chain_word, crate::specs::Chains::is_read_as))]
 pub fn chain(o: &OrdersBuffer, i: u64) -> ChainWord
     requires { i ≤ 65 }
     ensures { result.bits ≡ chain_word o.now i }
@@ -287,6 +290,7 @@ fn count(o: &OrdersBuffer, i: u64) -> u64
 // ---- Soundness: whether the links and the kept figures of any content agree (docs/STATE.md, "The orders buffer").
 
 // Whether link h does not name an entry of chain i among the first m entries.
+#[tactic(auto, unfolding(crate::specs::Chains::astray))]
 fn is_astray(o: &OrdersBuffer, i: u64, m: u64, h: u64) -> bool
     requires { m ≤ 2048 }
     ensures { result ≡ astray o.now i m h }
@@ -298,6 +302,7 @@ fn is_astray(o: &OrdersBuffer, i: u64, m: u64, h: u64) -> bool
 }
 
 // Whether the kept figures of chain i are right; d is the set of its done tasks and n its number of entries.
+#[tactic(auto, unfolding(crate::specs::Chains::figures, crate::specs::Chains::done_word, crate::specs::Chains::is_read_as))]
 fn figures_fit(o: &OrdersBuffer, i: u64, n: u64, d: Set) -> bool
     requires { (i ≤ 65) × ((is_read_as o.now i ≡ true) × (n ≡ count_of (chain_word o.now i))) }
     ensures { result ≡ figures o.now i d.bits }

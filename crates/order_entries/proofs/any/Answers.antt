@@ -1,16 +1,11 @@
 use Prim.Native.Nat.{ℕ}
-use mathlib.Core.Path.{◌≡◌, refl, ap, ◌∙◌}
+use mathlib.Core.Path.{◌≡◌, ap, ◌∙◌}
 use native.Mathlib.Omega.{arith}
-use Rattle.paper_lower.specs.Lists.{some_number_below}
 use Rattle.order_links.proofs.ActLaws.{whole}
 use Rattle.order_links.specs.Chains.{mark_of}
 use Rattle.order_entries.specs.Reading.{any_up_to}
 use Rattle.order_entries.proofs.FlatLaws.{up_more}
 use Rattle.order_entries.proofs.any.Goals as goal
-
-pub loop-k-init : goal.loop-k-init
-unfolding some_number_below
-loop-k-init c = (omega arith, refl)
 
 pub loop-k-preserved : goal.loop-k-preserved
 loop-k-preserved c =

@@ -1,21 +1,10 @@
-use Prim.Native.Nat.{ℕ, ◌+◌}
-use mathlib.Core.Path.{ap}
-use Rattle.order_links.specs.Chains.{head_of, count_of, walk_over, take_done, leads}
-use mathlib.Core.Path.{◌≡◌, sym, ◌∙◌}
+use Prim.Native.Nat.{◌+◌}
+use Rattle.order_links.specs.Chains.{take_done}
+use mathlib.Core.Path.{sym, ◌∙◌}
 use native.Mathlib.Omega.{arith}
 use Rattle.order_links.proofs.ChainLaws.{found, leads-turn, walk_turn, chain-astray, chain-end}
 use Prim.Native.Nat.{◌-◌}
 use Rattle.order_links.proofs.chain_sound.Goals as goal
-
-pub loop-passed-init : goal.loop-passed-init
-loop-passed-init c =
-    let args = c.args in
-    let same = c.requires.1.1.1 in
-    let all : c.count-n.result - 0 ≡ c.count-n.result = omega arith in
-    rw (all, c.head-h.ensures, c.count-n.ensures) (
-      ap (λ (x : ℕ). leads args.o.now args.i args.m (head_of x) (count_of x)) same,
-      ap (λ (x : ℕ). walk_over take_done args.o.now (head_of x) (count_of x) 0) same,
-    )
 
 pub returns-then-is_astray : goal.returns-then-is_astray
 returns-then-is_astray c =

@@ -1,7 +1,5 @@
 -- `cut` meets its contract: for the newest entry it changes the word of the chain, and for any other the link of the entry before it.
-use Prim.Native.Nat.{◌+◌}
 use native.Mathlib.Omega.{arith}
-use lib.ListN.{length-set}
 use Rattle.order_links.proofs.TotalLaws.{any-newest, any-later}
 use Rattle.order_links.proofs.cut.Goals as goal
 

@@ -1,14 +1,9 @@
 use Prim.Native.Nat.{◌+◌, ◌-◌}
-use mathlib.Core.Path.{◌≡◌, sym, ◌∙◌}
+use mathlib.Core.Path.{sym, ◌∙◌}
 use native.Mathlib.Omega.{arith}
 use Rattle.order_links.proofs.CarryLaws.{emptied}
-use Rattle.order_links.proofs.TotalLaws.{drop-begins, drops-on}
+use Rattle.order_links.proofs.TotalLaws.{drops-on}
 use Rattle.order_links.proofs.drop_all.Goals as goal
-
-pub loop-dropped-init : goal.loop-dropped-init
-loop-dropped-init c =
-    let all : c.count-n.result - 0 ≡ c.count-n.result = omega arith in
-    (c.told-o, rw all (drop-begins c.args.i c.count-n.result c.args.o.now c.count-n.ensures))
 
 pub loop-dropped-preserved : goal.loop-dropped-preserved
 loop-dropped-preserved c =

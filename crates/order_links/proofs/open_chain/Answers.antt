@@ -2,8 +2,7 @@
 use Prim.Native.Nat.{ℕ, ◌+◌}
 use mathlib.Core.Path.{sym, ap, subst, ◌∙◌}
 use mathlib.Core.List.{[]}
-use lib.ListN.{set, length-set}
-use native.Mathlib.Omega.{arith}
+use lib.ListN.{set}
 use Rattle.paper_lower.specs.Sets.{plus}
 use Rattle.paper_lower.specs.Lists.Maybe.{just}
 use Rattle.order_links.specs.Acts.{Leaves}

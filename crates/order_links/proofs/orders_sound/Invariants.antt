@@ -1,6 +1,6 @@
 -- `orders_sound` meets its contract. The invariant of the loop: the chains below i are sound,
 -- n counts their entries, and the bits that are left are those of the instances from i on.
-use Prim.Native.Nat.{◌≤◌, ◌<◌}
+use Prim.Native.Nat.{◌≤◌}
 use Rattle.order_links.specs.Chains.{open_of}
 use Rattle.order_links.proofs.CheckLaws.{Left, SoFar}
 use Rattle.order_links.proofs.orders_sound.Given as goal

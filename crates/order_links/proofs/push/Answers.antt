@@ -1,7 +1,4 @@
 -- `push` meets its contract: the entry links to the one that was newest, and is the newest now.
-use Prim.Native.Nat.{◌+◌}
-use native.Mathlib.Omega.{arith}
-use lib.ListN.{length-set}
 use Rattle.order_links.proofs.TotalLaws.{any-pushed}
 use Rattle.order_links.proofs.push.Goals as goal
 
