@@ -2,7 +2,7 @@
 // complete. The crate engine makes every decision.
 #![tactic(auto)]
 
-ghost use Rattle.std.specs.Prelude.{◌+◌, ◌%◌, ◌<◌, ◌≤◌, min, ◌≡◌, length, IfOk};
+ghost use Rattle.std.specs.Prelude.{◌+◌, ◌%◌, ◌<◌, ◌≤◌, ◌≡◌, length, IfOk};
 ghost use Rattle.engine.specs.Buffers.{buffers};
 ghost use Rattle.engine.specs.Settling.{Settling};
 
@@ -109,14 +109,6 @@ fn put_answer(out: &mut [u8; 16384], at: usize, request: u64, reply: u64, place:
 {
     let middle = put_number(out, at, request, 32);
     put_line(out, middle, reply, place)
-}
-
-// The end of the record that starts at `at`: after 16 bytes, or at the end of the input, which cuts the record off.
-fn record_end(at: usize, n: usize) -> usize
-    requires { at < n }
-    ensures { result ≡ min (at + 16) n }
-{
-    if n - at < 16 { n } else { at + 16 }
 }
 
 // How many of these bytes belong to whole records. The others are the beginning of the next record.

