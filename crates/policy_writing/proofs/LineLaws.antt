@@ -19,7 +19,7 @@ use Rattle.replies.specs.Cells.{column, rows_from, rows}
 use Rattle.records.proofs.Span.{Rest, one_each, others}
 use Rattle.policy.specs.Layout.{same, limit_count, limit_at, block_count, block_at, pair_count, pair_at, wall_count, walled_at}
 use Rattle.policy.specs.Reading.{rules_in, policy_of, value_of}
-use Rattle.policy_writing.specs.Lines.{Line, spread, limit_row, block_row, row_of_pair, wall_row, lines_in, line_missing, line_of, height_in, kind_in, kind_numbers}
+use Rattle.policy_writing.specs.Lines.{Line, spread, limit_row, block_row, row_of_pair, wall_row, lines_in, line_missing, line_of, height_in, kind_in, side_in, kind_numbers}
 
 -- ---- The records of the rows from k on, with those of the first row split off; and the same as lists of rows.
 in-none : (f : ℕ → List Record) → in_turn 0 f ≡ []
@@ -49,6 +49,11 @@ each_from g h k (suc n) = ap (λ (rs : List Record). g (h k) ∷ rs) (each_from 
 
 each_rows : {A : Type 0} (g : A → Record) (h : ℕ → A) (n : ℕ) → each g (rows h n) ≡ in_turn n (λ i. g (h i) ∷ [])
 each_rows g h n = each_from g h 0 n ∙ ap (in_turn n) (from_zero (λ i. g (h i) ∷ []))
+
+-- Unfolds what the rows of a kind are computed from, for `height` and `line`.
+unfoldable pub lines_open : Unit {0}
+unfolding line_of lines_in side_in limit_count block_count pair_count wall_count
+lines_open = tt
 
 -- ---- The kind with a given number.
 none-line : (xs : List Line) (k : ℕ) → Every (λ x. eqb x.kind k ≡ false) xs → line_of xs k ≡ line_missing k

@@ -14,13 +14,11 @@ use Rattle.paper_lower.specs.Tables.{Policy, no_policy}
 use Rattle.paper_lower.specs.Words.{joined}
 use Rattle.paper_lower.specs.Written.{records_written, written}
 use Rattle.paper_lower.proofs.ListLaws.{and-false}
-use Rattle.replies.specs.Replies.{number_of}
 use Rattle.policy.specs.Layout.{policy_words}
 use Rattle.policy.specs.Reading.{policy_of}
 use Rattle.sessions.specs.Reading.{sessions_words}
 use Rattle.policy_writing.specs.Laying.{Laid}
-use Rattle.policy_writing.specs.Answers.{Answer, answer, records_of, write_of, fit, Wrote, Exported}
-use Rattle.policy_writing.specs.declared.Written.{Written}
+use Rattle.policy_writing.specs.Answers.{Answer, answer, records_of, write_of, Written, written_number, written_records, fit, Wrote, Exported}
 use Rattle.policy_writing.proofs.Laws.{filled}
 use Rattle.policy_writing.proofs.LineLaws.{nothing_written}
 
@@ -49,24 +47,9 @@ nothing-out out = rw (nothing_written, le-leb 0 (length out) (omega arith))
 
 -- ---- The answer as one number, the reply plus 256 times the number of records.
 module _ (fits : Bool) (p : Policy) (out : Bytes) where
-  pub reply-small : (write_of fits p out).reply ≤ 1
-  unfolding write_of
-  reply-small = go (fits && leb (16 * records_of p) (length out))
-    where
-      go : (t : Bool) → (cond {A = Answer} t (answer GRANTED (records_of p) (written p ++ drop (16 * records_of p) out)) (answer ROOM 0 out)).reply ≤ 1
-      go true = omega arith
-      go false = omega arith
-
-  module _ {reply records number : ℕ} {out' : Bytes} (d : answer reply records out' ≡ write_of fits p out) (e : number ≡ reply) where
-    pub number_small : number ≤ 1
-    number_small = omega (arith, reply-small, ap (λ (x : Answer). x.reply) d)
-
-    pub as_number : Exported fits p out out' (number + 256 * records)
-    as_number =
-        record {
-          answers = λ i. (e ∙ ap (λ (x : Answer). x.reply) d) i + 256 * (d i).records;
-          bytes = ap (λ (x : Answer). x.output) d;
-        }
+  pub as_number : {reply records number : ℕ} {out' : Bytes} → answer reply records out' ≡ write_of fits p out → number ≡ reply + 256 * records →
+      Exported fits p out out' number
+  as_number d e = record { answers = e ∙ ap (λ (x : Answer). x.reply + 256 * x.records) d; bytes = ap (λ (x : Answer). x.output) d }
 
 -- ---- The two buffers of the lower part.
 and-true : (b : Bool) → b && true ≡ b
@@ -78,8 +61,8 @@ module _ (p s : List ℕ) (out : Bytes) where
   unfolding write_of
   no-sessions h = rw (ne_eqb (length s) sessions_words h, and-false (eqb (length p) policy_words)) (record { answers = refl; bytes = refl })
 
-  pub with-sessions : length s ≡ sessions_words → {x : Written} {out' : Bytes} {number : ℕ} → Wrote p out out' x → number ≡ number_of x.reply →
-      Exported (fit p s) (policy_of p) out out' (number + 256 * x.records)
+  pub with-sessions : length s ≡ sessions_words → {x : Written} {out' : Bytes} {number : ℕ} → Wrote p out out' x →
+      number ≡ written_number x + 256 * written_records x → Exported (fit p s) (policy_of p) out out' number
   with-sessions h d e =
       let both : fit p s ≡ eqb (length p) policy_words =
       ap (λ (b : Bool). eqb (length p) policy_words && b) (eq-eqb (length s) sessions_words h) ∙ and-true (eqb (length p) policy_words) in

@@ -1,10 +1,11 @@
 // Writes the policy tables as records to an output (02, Ask 8): kind after kind, and row after row within a kind.
 #![tactic(auto)]
 
-ghost use Rattle.std.specs.Prelude.{◌≡◌, [], ◌∷◌, ◌+◌, ◌≤◌, ◌<◌, length};
+ghost use Rattle.std.specs.Prelude.{◌≡◌, [], ◌∷◌, ◌+◌, ◌*◌, ◌≤◌, ◌<◌};
 ghost use Rattle.paper_lower.specs.Lists.{many};
 ghost use Rattle.paper_lower.specs.Written.{when, of_there, row, records_written};
-ghost use Rattle.policy.specs.Layout.{policy_words, limit_at, block_at, pair_at, walled_at};
+ghost use Rattle.policy.specs.Kinds.{set_index, pair_index};
+ghost use Rattle.policy.specs.Layout.{limit_at, block_at, pair_at, walled_at};
 ghost use Rattle.policy.specs.Reading.{policy_of};
 ghost use Rattle.policy_writing.specs.Lines.{spread, across, limit_row, block_row, row_of_pair, wall_row, height_in, row_in, kind_in, side_in};
 ghost use Rattle.policy_writing.specs.Laying.{Laid, Whole, far};
@@ -77,23 +78,15 @@ fn most(output: &mut [u8], place: usize, p: &PolicyBuffer, a: usize) -> usize
 }
 
 // Set k of a kind (static sets 0, dynamic sets 1, task sets 2).
+#[tactic(auto, unfolding(paper_lower::specs::Written::when))]
 fn limit(output: &mut [u8], place: usize, p: &PolicyBuffer, which: SetKind, k: usize) -> usize
     requires { (place < far) × (k < 32) }
     ensures { Laid (limit_row (9 + set_index which) (limit_at (set_index which) p.now k) ∷ []) 1 output.old output.new place result }
 {
     let n = policy::limit_n(p, which, k) % 256;
     let m = policy::limit_members(p, which, k);
-    put(
-        output,
-        place,
-        true,
-        9 + which.index() as u64,
-        n,
-        0,
-        0,
-        0,
-        m.bits,
-    )
+    let kind = 9 + which.index() as u64;
+    put(output, place, true, kind, n, 0, 0, 0, m.bits)
 }
 
 // Block k.
@@ -107,23 +100,15 @@ fn block(output: &mut [u8], place: usize, p: &PolicyBuffer, k: usize) -> usize
 }
 
 // Pair k of a kind (bindings 0, prerequisites 1).
+#[tactic(auto, unfolding(paper_lower::specs::Written::when))]
 fn pair(output: &mut [u8], place: usize, p: &PolicyBuffer, which: PairKind, k: usize) -> usize
     requires { (place < far) × (k < 64) }
     ensures { Laid (row_of_pair (15 + pair_index which) (pair_at (pair_index which) p.now k) ∷ []) 1 output.old output.new place result }
 {
     let a = policy::pair_a(p, which, k);
     let b = policy::pair_b(p, which, k);
-    put(
-        output,
-        place,
-        true,
-        15 + which.index() as u64,
-        0,
-        a,
-        b,
-        0,
-        0,
-    )
+    let kind = 15 + which.index() as u64;
+    put(output, place, true, kind, 0, a, b, 0, 0)
 }
 
 // Row k of the walls. The field c has two bytes; a row without an object, which no load makes, is written with object 0.
@@ -179,6 +164,7 @@ fn permissions(output: &mut [u8], place: usize, p: &PolicyBuffer, kind: u64, a: 
 // ---- One kind.
 
 // The number of rows of a kind.
+#[tactic(auto, unfolding(crate::proofs::LineLaws::lines_open))]
 fn height(p: &PolicyBuffer, kind: u64) -> usize
     ensures { (result ≡ height_in p.now kind) × (result ≤ 1024) }
 {
@@ -206,6 +192,7 @@ fn height(p: &PolicyBuffer, kind: u64) -> usize
 }
 
 // Row a of a kind.
+#[tactic(auto, using(crate::proofs::Laws::as_row), unfolding(crate::proofs::LineLaws::lines_open))]
 fn line(output: &mut [u8], place: usize, p: &PolicyBuffer, kind: u64, a: usize) -> usize
     requires { (place + 256 < far) × (a < height_in p.now kind) }
     ensures { Laid (row_in p.now kind a) 256 output.old output.new place result }
@@ -282,7 +269,9 @@ fn count(p: &PolicyBuffer) -> usize
 pub fn write(output: &mut [u8], policy: &[u64]) -> Result<usize, Refusal>
     ensures { Wrote policy.now output.old output.new result }
 {
-    let p = policy.as_array::<POLICY_WORDS>().ok_or(Refusal::Room)?;
+    let Some(p) = policy.as_array::<POLICY_WORDS>() else {
+        return Err(Refusal::Room);
+    };
     let records = count(p);
     if output.len() < 16 * records {
         return Err(Refusal::Room);

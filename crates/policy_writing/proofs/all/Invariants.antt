@@ -9,4 +9,4 @@ use Rattle.policy_writing.proofs.all.Given as goal
 
 abbrev pub invariant-loop-kind : goal.invariant-loop-kind
 invariant-loop-kind l =
-    (l.kind ≤ 19) × ((length l.output ≡ length l.initial.output) × Laid (in_turn l.kind (kind_in l.p)) (262144 * l.kind) l.initial.output l.output 0 l.at)
+    Laid (in_turn l.kind (kind_in l.p)) (262144 * l.kind) l.initial.output l.output 0 l.at

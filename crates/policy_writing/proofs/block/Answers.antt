@@ -6,18 +6,16 @@ use Rattle.policy_writing.proofs.LineLaws.{block-small}
 use Rattle.policy_writing.proofs.block.Goals as goal
 
 pub put-requires : goal.put-requires
-put-requires c =
-    let pre = c.requires in
-    let args = c.args in (
-      pre.0,
-      record {
-        kind_fits = omega arith;
-        n-fits = omega arith;
-        a-fits = omega (arith, c.block_partitioning-a.ensures, block-small args.p.now args.k);
-        b-fits = omega arith;
-        c-fits = omega arith;
-      },
-    )
+put-requires c = (
+  c.requires.0,
+  record {
+    kind_fits = omega arith;
+    n-fits = omega arith;
+    a-fits = omega (arith, c.block_partitioning-a.ensures, block-small c.args.p.now c.args.k);
+    b-fits = omega arith;
+    c-fits = omega arith;
+  },
+)
 
 pub returns : goal.returns
 unfolding when

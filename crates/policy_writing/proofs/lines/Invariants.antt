@@ -9,4 +9,4 @@ use Rattle.policy_writing.proofs.lines.Given as goal
 
 abbrev pub invariant-loop-a : goal.invariant-loop-a
 invariant-loop-a l =
-    (l.a ≤ l.rows) × ((length l.output ≡ length l.initial.output) × Laid (in_turn l.a (row_in l.p l.kind)) (256 * l.a) l.initial.output l.output l.place l.at)
+    Laid (in_turn l.a (row_in l.p l.kind)) (256 * l.a) l.initial.output l.output l.place l.at

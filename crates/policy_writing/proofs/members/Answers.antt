@@ -1,6 +1,5 @@
-use Prim.Native.Nat.{◌-◌}
 use native.Mathlib.Omega.{arith}
-use mathlib.Core.Path.{◌≡◌, refl, sym, ◌∙◌}
+use mathlib.Core.Path.{◌≡◌, sym, ◌∙◌}
 use Rattle.paper_lower.specs.Sets.{has}
 use Rattle.paper_lower.specs.Written.{when, row}
 use Rattle.policy_writing.proofs.Laws.{nothing, begins, turns, as_row}
@@ -14,20 +13,14 @@ returns-then-is_empty c =
     (no-members args.kind args.a args.m.bits (sym c.is_empty.ensures ∙ c.if-is_empty.true)) (omega arith)
 
 pub loop-b-init : goal.loop-b-init
-loop-b-init c = (omega arith, (refl, begins _ _ _))
+loop-b-init c = begins _ _ _
 
 pub loop-b-preserved : goal.loop-b-preserved
 loop-b-preserved c =
     let args = c.args in
     let loop = c.loop-b in
-    let has' = c.has in (
-      omega arith,
-      (
-        omega arith,
-        turns (λ b. when (has args.m.bits b) (row args.kind 0 args.a b 0 0)) loop.b loop.invariant.1.1
-            (as_row 1 c.put-at.ensures (rw has'.ensures) (omega arith)) (omega arith),
-      ),
-    )
+    turns (λ b. when (has args.m.bits b) (row args.kind 0 args.a b 0 0)) loop.b loop.invariant
+    (as_row 1 c.put-at.ensures (rw c.has.ensures) (omega arith)) (omega arith)
 
 pub returns : goal.returns
-returns c = let e : c.loop-b.b ≡ 64 = omega arith in rw e at c.loop-b.invariant.1.1
+returns c = let e : c.loop-b.b ≡ 64 = omega arith in rw e at c.loop-b.invariant

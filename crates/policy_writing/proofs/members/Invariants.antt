@@ -9,4 +9,4 @@ use Rattle.policy_writing.proofs.members.Given as goal
 
 abbrev pub invariant-loop-b : goal.invariant-loop-b
 invariant-loop-b l =
-    (l.b ≤ 64) × ((length l.output ≡ length l.initial.output) × Laid (in_turn l.b (λ i. when (has l.m.bits i) (row l.kind 0 l.a i 0 0))) l.b l.initial.output l.output l.place l.at)
+    Laid (in_turn l.b (λ i. when (has l.m.bits i) (row l.kind 0 l.a i 0 0))) l.b l.initial.output l.output l.place l.at

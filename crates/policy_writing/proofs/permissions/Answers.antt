@@ -1,6 +1,5 @@
-use Prim.Native.Nat.{◌-◌}
 use native.Mathlib.Omega.{arith}
-use mathlib.Core.Path.{◌≡◌, refl}
+use mathlib.Core.Path.{◌≡◌}
 use Rattle.paper_lower.specs.Sets.{has}
 use Rattle.paper_lower.specs.Written.{when, row}
 use Rattle.policy_writing.specs.Lines.{side_in}
@@ -8,21 +7,14 @@ use Rattle.policy_writing.proofs.Laws.{begins, turns, as_row}
 use Rattle.policy_writing.proofs.permissions.Goals as goal
 
 pub loop-b-init : goal.loop-b-init
-loop-b-init c = (omega arith, (refl, begins _ _ _))
+loop-b-init c = begins _ _ _
 
 pub loop-b-preserved : goal.loop-b-preserved
 loop-b-preserved c =
     let args = c.args in
     let loop = c.loop-b in
-    let side = c.side in
-    let has' = c.has-there in (
-      omega arith,
-      (
-        omega arith,
-        turns (λ b. when (has (side_in args.p.now args.kind b) args.a) (row args.kind 0 args.a b 0 0)) loop.b loop.invariant.1.1
-            (as_row 1 c.put-at.ensures (rw (has'.ensures, side.ensures)) (omega arith)) (omega arith),
-      ),
-    )
+    turns (λ b. when (has (side_in args.p.now args.kind b) args.a) (row args.kind 0 args.a b 0 0)) loop.b loop.invariant
+    (as_row 1 c.put-at.ensures (rw (c.has-there.ensures, c.side.ensures)) (omega arith)) (omega arith)
 
 pub returns : goal.returns
-returns c = let e : c.loop-b.b ≡ 256 = omega arith in rw e at c.loop-b.invariant.1.1
+returns c = let e : c.loop-b.b ≡ 256 = omega arith in rw e at c.loop-b.invariant

@@ -10,4 +10,4 @@ use Rattle.policy_writing.proofs.permissions.Given as goal
 
 abbrev pub invariant-loop-b : goal.invariant-loop-b
 invariant-loop-b l =
-    (l.b ≤ 256) × ((length l.output ≡ length l.initial.output) × Laid (in_turn l.b (λ i. when (has (side_in l.p l.kind i) l.a) (row l.kind 0 l.a i 0 0))) l.b l.initial.output l.output l.place l.at)
+    Laid (in_turn l.b (λ i. when (has (side_in l.p l.kind i) l.a) (row l.kind 0 l.a i 0 0))) l.b l.initial.output l.output l.place l.at
