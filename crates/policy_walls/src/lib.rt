@@ -30,10 +30,8 @@ fn with_part(p: &PolicyBuffer, object: u64, part: usize, count: usize, b: Blocks
 {
     let mut left = policy::wall_rows(p, object, part);
     let mut all = b;
-    while left.bits != 0 {
-        let t = left.least();
+    while let Some(t) = left.take_least() {
         all = with_row(p, object, 64 * part + t as usize, count, all);
-        left = left.without(t);
     }
     all
 }

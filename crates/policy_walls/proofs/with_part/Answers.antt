@@ -1,27 +1,23 @@
-use mathlib.Core.Path.{◌≡◌, sym, ap, ◌∙◌}
-use native.Mathlib.Omega.{arith}
+use mathlib.Core.Path.{sym, ap, ◌∙◌}
 use Rattle.sets.proofs.SetLaws.{minus-less}
 use Rattle.blocks.specs.Reading.{blocks_of, over}
 use Rattle.policy_walls.proofs.FoundLaws.{left-start, left_end, row-turn}
 use Rattle.policy_walls.proofs.with_part.Goals as goal
 
-pub loop-left-init : goal.loop-left-init
-loop-left-init c = ap (over (blocks_of c.args.b)) (left-start _ _ c.requires.0 _ c.wall_rows-left.ensures)
+pub loop-t-init : goal.loop-t-init
+loop-t-init c = ap (over (blocks_of c.args.b)) (left-start _ _ c.requires.0 _ c.wall_rows-left.ensures)
 
-pub loop-left-smaller : goal.loop-left-smaller
-loop-left-smaller c = rw c.without-left.ensures (minus-less _ _ c.least-t.ensures.0)
+pub loop-t-smaller : goal.loop-t-smaller
+loop-t-smaller c = let taken = c.in-Some.ensures in rw taken.1.1.1 (minus-less _ _ taken.0)
 
-pub loop-left-preserved : goal.loop-left-preserved
-loop-left-preserved c =
-    let pre = c.requires in
-    let loop = c.loop-left in
-    let least = c.least-t in
-    rw (c.without-left.ensures, c.with_row-all.ensures)
-    (sym (row-turn _ _ pre.0 _ _ least.result least.ensures.1.0 least.ensures.0 least.ensures.1.1 (blocks_of loop.all)) ∙ loop.invariant)
+pub loop-t-preserved : goal.loop-t-preserved
+loop-t-preserved c =
+    let loop = c.loop-t in
+    let taken = c.in-Some.ensures in
+    rw (taken.1.1.1, c.with_row-all.ensures)
+    (sym (row-turn _ _ c.requires.0 _ _ c.in-Some.t taken.1.0 taken.0 taken.1.1.0 (blocks_of loop.all)) ∙ loop.invariant)
 
 pub returns : goal.returns
 returns c =
-    let pre = c.requires in
-    let loop = c.loop-left in
-    let z : loop.left.bits ≡ 0 = omega arith in
-    ap (over (blocks_of loop.all)) (sym (left_end _ _ pre.0 _ z)) ∙ loop.invariant
+    let loop = c.loop-t in
+    ap (over (blocks_of loop.all)) (sym (left_end _ _ c.requires.0 _ c.in_default.ensures.0)) ∙ loop.invariant

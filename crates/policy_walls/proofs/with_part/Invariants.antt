@@ -4,8 +4,8 @@ use Rattle.blocks.specs.Reading.{blocks_of, over}
 use Rattle.policy_walls.specs.Found.{blocks_from, blocks_left}
 use Rattle.policy_walls.proofs.with_part.Given as goal
 
-abbrev pub invariant-loop-left : goal.invariant-loop-left
-invariant-loop-left l = over (blocks_of l.all) (blocks_left l.p l.object l.part l.left.bits) ≡ over (blocks_of l.initial.all) (blocks_from l.p l.object l.part)
+abbrev pub invariant-loop-t : goal.invariant-loop-t
+invariant-loop-t l = over (blocks_of l.all) (blocks_left l.p l.object l.part l.left.bits) ≡ over (blocks_of l.initial.all) (blocks_from l.p l.object l.part)
 
-abbrev pub decreases-loop-left : goal.decreases-loop-left
-decreases-loop-left l = l.left.bits
+abbrev pub decreases-loop-t : goal.decreases-loop-t
+decreases-loop-t l = l.left.bits
