@@ -1,31 +1,26 @@
 -- The contracts of requests 50 to 52 and 57 on the buffers p (policy), s (sessions) and o (orders). `...Judged` says that the reply is that of the
 -- definition's checks. The other definition of a request also says which tables it leaves, that a refusal changes no word, and that the links stay sound. All
 -- of this is promised for sound links. For other contents it is promised that a refusal changes no word, and that a place is at most 64.
-use Rattle.std.specs.Prelude.{ℕ, ◌<◌, true, not, List, ◌≡◌, length}
+use Rattle.std.specs.Prelude.{ℕ, ◌<◌, true, false, List, ◌≡◌, Option, MatchOption}
 use Rattle.paper_lower.specs.Lists.Maybe.{just}
 use Rattle.paper_lower.specs.Checks.{first, granted}
 use Rattle.paper_upper.specs.Orders.{Engine, SameTables}
 use Rattle.paper_upper.specs.Requests.{unknown, claim_checks, claim_place, claim_next, hold_checks, release_next, done_next, task_check_checks}
 use Rattle.replies.specs.Replies.{Reply, number_of, Outcome, outcome_number, outcome_place}
 use Rattle.replies.specs.Done.{Done}
-use Rattle.policy.specs.Layout.{policy_words}
-use Rattle.sessions.specs.Reading.{sessions_words}
-use Rattle.order_links.specs.Chains.{orders_words, sound_of}
-use Rattle.order_entries.specs.declared.Instance.{Instance}
+use Rattle.order_links.specs.Chains.{sound_of}
 use Rattle.order_rules.specs.Judging.{Verdict}
 use Rattle.order_requests.specs.Tables.{engine_tables}
 
--- Each buffer has its length, and subject a, instance b and task c are within their limits.
-abbrev pub InLimits : List ℕ → List ℕ → List ℕ → ℕ → ℕ → ℕ → Type 0
-InLimits p s o a b c =
-    (length p ≡ policy_words)
-    × ((length s ≡ sessions_words) × ((length o ≡ orders_words) × ((a < 128) × ((b < 64) × (c < 64)))))
+-- Nothing is unknown: subject a is live, instance b is open, and j is its template, which has task c.
+pub record KnownTemplate (t : Engine) (a b c j : ℕ) : Type 0 where
+  pub known : unknown t a b c ≡ false
+  pub template : t.orders.opened b ≡ just j
+  pub small : j < 16
 
--- The instance r counts as open only if the subject is live and the task is one of its template.
-pub record Known (t : Engine) (a b c : ℕ) (r : Instance) : Type 0 where
-  pub opens : r.open ≡ not (unknown t a b c)
-  pub template : r.open ≡ true → t.orders.opened b ≡ just r.template
-  pub small : r.template < 16
+-- The template is given exactly if nothing is unknown.
+abbrev pub Known : Engine → ℕ → ℕ → ℕ → Option ℕ → Type 0
+Known t a b c r = MatchOption r (unknown t a b c ≡ true) (KnownTemplate t a b c)
 
 -- ---- 50: the contract of `claim_reply`.
 abbrev pub ClaimJudged : List ℕ → List ℕ → List ℕ → ℕ → ℕ → ℕ → Outcome → Type 0

@@ -2,19 +2,19 @@
 // the policy, the sessions and the orders. The contracts are in specs/Promises.
 #![tactic(auto)]
 
-ghost use Rattle.std.specs.Prelude.{◌≡◌, true, ◌<◌, ◌≤◌, length};
+ghost use Rattle.std.specs.Prelude.{◌≡◌, true, ◌<◌, ◌≤◌};
 ghost use Rattle.paper_lower.specs.Sets.{meets};
 ghost use Rattle.paper_lower.specs.Policy.{down};
 ghost use Rattle.paper_upper.specs.Requests.{unknown};
 ghost use Rattle.replies.specs.Replies.{outcome_reply, outcome_place};
 ghost use Rattle.policy.specs.Reading.{policy_of};
-ghost use Rattle.sessions.specs.Reading.{sessions_words, sessions_of};
+ghost use Rattle.sessions.specs.Reading.{sessions_of};
 ghost use Rattle.order_links.specs.Chains.{sound_of};
+ghost use Rattle.order_entries.specs.Acts.{InLimits};
 ghost use Rattle.order_requests.specs.Tables.{engine_tables};
 ghost use Rattle.order_requests.specs.Promises.{AnyContent};
-ghost use Rattle.order_claims.specs.Promises.{InLimits, Known, ClaimJudged, Claimed, HoldJudged, Released, Finished, TaskCheckJudged};
+ghost use Rattle.order_claims.specs.Promises.{Known, ClaimJudged, Claimed, HoldJudged, Released, Finished, TaskCheckJudged};
 
-use order_entries::Instance;
 use order_links::OrdersBuffer;
 use policy::PolicyBuffer;
 use replies::{Outcome, Refusal, Refused, Reply};
@@ -25,16 +25,22 @@ const MOST: usize = 2048;
 
 // ---- What the four requests share: subject a, instance b, task c.
 
-// Instance b. It counts as open only if the subject is live and the task is one of its template.
-fn known(p: &PolicyBuffer, s: &SessionsBuffer, o: &OrdersBuffer, a: u64, b: u64, c: u64) -> Instance
-    requires { InLimits p.now s.now o.now a b c }
+// The template of instance b, if the subject is live, the instance open and the task one of its template.
+fn known(
+    p: &PolicyBuffer,
+    s: &SessionsBuffer,
+    o: &OrdersBuffer,
+    a: u64,
+    b: u64,
+    c: u64,
+) -> Option<u64>
+    requires { InLimits b c a }
     ensures { Known (engine_tables p.now s.now o.now) a b c result }
 {
     let x = order_entries::opened(o, b);
-    let template = x.template;
     let open = sessions::live(s, a as usize)
-        & (x.open & policy::task_is_of(p, c as usize, template));
-    Instance { open, template }
+        & (x.open & policy::task_is_of(p, c as usize, x.template));
+    open.then_some(x.template)
 }
 
 // Whether the subject is not live, or the task is not one of an open instance's template.
@@ -46,11 +52,10 @@ fn is_unknown(
     b: u64,
     c: u64,
 ) -> bool
-    requires { InLimits p.now s.now o.now a b c }
+    requires { InLimits b c a }
     ensures { result ≡ unknown (engine_tables p.now s.now o.now) a b c }
 {
-    let x = known(p, s, o, a, b, c);
-    !x.open
+    known(p, s, o, a, b, c).is_none()
 }
 
 // Whether an active role of the subject, or a role below one, opens the task.
@@ -73,13 +78,12 @@ fn claim_reply(
     b: u64,
     c: u64,
 ) -> Outcome
-    requires { InLimits p.now s.now o.now a b c }
+    requires { InLimits b c a }
     ensures { (outcome_place result ≤ 64) × (sound_of o.now ≡ true → ClaimJudged p.now s.now o.now a b c result) }
 {
-    let x = known(p, s, o, a, b, c);
-    if !x.open {
+    let Some(template) = known(p, s, o, a, b, c) else {
         return Err(Refused::from(Refusal::Unknown));
-    }
+    };
     let user = sessions::user(s, a as usize);
     let g = order_entries::gather(o, b, user, c);
     if g.held == 1 {
@@ -88,7 +92,7 @@ fn claim_reply(
     if !has_role(p, s, a, c) {
         return Err(Refused::from(Refusal::NoRole));
     }
-    order_rules::judge(p, x.template, g.mine, g.done, g.others, g.times, c)?;
+    order_rules::judge(p, template, g.mine, g.done, g.others, g.times, c)?;
     if MOST <= order_entries::in_use(o) {
         return Err(Refused::from(Refusal::Full));
     }
@@ -104,7 +108,7 @@ pub fn claim(
     b: u64,
     c: u64,
 ) -> Outcome
-    requires { InLimits p.now s.now o.old a b c }
+    requires { InLimits b c a }
     ensures { (outcome_place result ≤ 64) × AnyContent o.old (o.new ≡ o.old) (Claimed p.now s.now o.old o.new a b c result) (outcome_reply result) }
 {
     claim_reply(p, s, o, a, b, c)?;
@@ -124,7 +128,7 @@ pub fn release(
     b: u64,
     c: u64,
 ) -> Reply
-    requires { InLimits p.now s.now o.old a b c }
+    requires { InLimits b c a }
     ensures { AnyContent o.old (o.new ≡ o.old) (Released p.now s.now o.old o.new a b c result) result }
 {
     if is_unknown(p, s, o, a, b, c) {
@@ -145,7 +149,7 @@ pub fn finish(
     b: u64,
     c: u64,
 ) -> Reply
-    requires { InLimits p.now s.now o.old a b c }
+    requires { InLimits b c a }
     ensures { AnyContent o.old (o.new ≡ o.old) (Finished p.now s.now o.old o.new a b c result) result }
 {
     if is_unknown(p, s, o, a, b, c) {
@@ -161,6 +165,7 @@ pub fn finish(
 // it holds. m is the operation plus 65,536 times the object. It changes nothing.
 
 // The reply of the checks before DENIED.
+#[tactic(auto, unfolding(paper_upper::specs::Requests::hold_checks))]
 fn hold_reply(
     p: &PolicyBuffer,
     s: &SessionsBuffer,
@@ -169,7 +174,7 @@ fn hold_reply(
     b: u64,
     c: u64,
 ) -> Reply
-    requires { InLimits p.now s.now o.now a b c }
+    requires { InLimits b c a }
     ensures { sound_of o.now ≡ true → HoldJudged p.now s.now o.now a b c result }
 {
     if is_unknown(p, s, o, a, b, c) {
@@ -191,7 +196,7 @@ pub fn task_check_reply(
     c: u64,
     m: u64,
 ) -> Reply
-    requires { InLimits p.now s.now o.now a b c × (m < 4294967296) }
+    requires { InLimits b c a × (m < 4294967296) }
     ensures { sound_of o.now ≡ true → TaskCheckJudged p.now s.now o.now a b c m result }
 {
     hold_reply(p, s, o, a, b, c)?;

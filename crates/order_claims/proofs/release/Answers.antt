@@ -1,7 +1,8 @@
 -- `release` meets its contract: it returns UNKNOWN, or removes the entry that the subject holds, or changes nothing if there is none.
-use mathlib.Core.Path.{refl, sym, subst, ◌∙◌}
-use mathlib.Core.List.{List}
 use Prim.Native.Nat.{ℕ}
+use mathlib.Core.List.{List}
+use mathlib.Core.Path.{refl, sym, subst, ◌∙◌}
+use Rattle.std.specs.Prelude.{Err}
 use Rattle.paper_upper.specs.Requests.{hold_checks, release_next}
 use Rattle.replies.specs.declared.Refusal.TheVariants.{NotYours}
 use Rattle.replies.proofs.DoneLaws.{refused, done}
@@ -12,41 +13,30 @@ use Rattle.order_claims.proofs.release.Goals as goal
 
 pub returns-then-is_unknown : goal.returns-then-is_unknown
 unfolding hold_checks
-returns-then-is_unknown c = record { kept = λ _. refl; sound = λ s. (refused (simp (← c.is_unknown.ensures, c.if-is_unknown.true)) refl refl, s) }
-
-pub release-requires : goal.release-requires
-release-requires c =
-    let pre = c.requires in
-    (pre.1.1.0, (pre.1.1.1.1.0, (pre.1.1.1.1.1, pre.1.1.1.0)))
+returns-then-is_unknown c = record { kept = λ _. refl; sound = λ s. (refused (simp (← c.is_unknown.ensures, c.if-is_unknown.true)), s) }
 
 pub returns-then-not-release : goal.returns-then-not-release
 unfolding hold_checks
 returns-then-not-release c =
-    let is-unknown = c.is_unknown in
-    let if1 = c.if-is_unknown in
-    let release = c.release in
     let z = c.args in
     let t = engine_tables z.p.now z.s.now z.o.now in
-    let k = release.ensures.kept c.if-not-release.true in
+    let same = c.release.ensures.kept c.if-not-release.true in
     record {
-      kept = λ _. k;
+      kept = λ _. same;
       sound = λ s.
-          let did = release.ensures.sound s (not-unknown t z.a z.b z.c (sym is-unknown.ensures ∙ if1.false)) in
-          subst (λ (x : List ℕ). Released z.p.now z.s.now z.o.now x z.a z.b z.c NotYours) (sym k)
-          (refused (simp (← is-unknown.ensures, if1.false, ← did.0, c.if-not-release.true)) refl refl, s);
+          let did = c.release.ensures.sound s (not-unknown t z.a z.b z.c (sym c.is_unknown.ensures ∙ c.if-is_unknown.false)) in
+          subst (λ (x : List ℕ). Released z.p.now z.s.now z.o.now x z.a z.b z.c (Err NotYours)) (sym same)
+          (refused (simp (← c.is_unknown.ensures, c.if-is_unknown.false, ← did.0, c.if-not-release.true)), s);
     }
 
 pub returns : goal.returns
 unfolding hold_checks release_next
 returns c =
-    let is-unknown = c.is_unknown in
-    let if1 = c.if-is_unknown in
-    let release = c.release in
     let z = c.args in
     let t = engine_tables z.p.now z.s.now z.o.now in
     record {
       kept = λ n. absurd (n refl);
       sound = λ s.
-          let did = release.ensures.sound s (not-unknown t z.a z.b z.c (sym is-unknown.ensures ∙ if1.false)) in
-          (done (simp (← is-unknown.ensures, if1.false, ← did.0, c.if-not-release.false)) refl refl (rw did.1.tables), did.1.sound);
+          let did = c.release.ensures.sound s (not-unknown t z.a z.b z.c (sym c.is_unknown.ensures ∙ c.if-is_unknown.false)) in
+          (done (simp (← c.is_unknown.ensures, c.if-is_unknown.false, ← did.0, c.if-not-release.false)) (rw did.1.tables), did.1.sound);
     }
