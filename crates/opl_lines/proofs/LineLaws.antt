@@ -21,46 +21,46 @@ use Rattle.opl_lines.specs.declared.Line.{Line as Ends}
 
 -- ---- The end of a line.
 module _ (t : Text) (f : ℕ) where
-  pub ends-here : length t ≤ f → got tt (drop f t) ≡ line_end (drop f t)
+  pub ends_here : length t ≤ f → got tt (drop f t) ≡ line_end (drop f t)
   unfolding line_end same
-  ends-here h = let z : drop f t ≡ [] = drop_of_length-le t h in rw z
+  ends_here h = let z : drop f t ≡ [] = drop_of_length-le t h in rw z
 
   module _ (h : f < length t) (c : Bool) (is : c ≡ starts (13 ∷ []) (drop f t)) where
     goes_on : same (drop f t) [] ≡ false
     unfolding same
     goes_on = rw (drop-cons t f 0 h)
 
-    pub ends-twice : c ≡ true → (r : Step) → Reads t (step_of t) (expect (13 ∷ 10 ∷ []) (drop f t)) r → Reads t (step_of t) (line_end (drop f t)) r
+    pub ends_twice : c ≡ true → (r : Step) → Reads t (step_of t) (expect (13 ∷ 10 ∷ []) (drop f t)) r → Reads t (step_of t) (line_end (drop f t)) r
     unfolding line_end
-    ends-twice q r a = record { read_is = a.read_is ∙ rw (goes_on, ← is, q); inside = a.inside }
+    ends_twice q r a = record { read_is = a.read_is ∙ rw (goes_on, ← is, q); inside = a.inside }
 
-    pub ends-once : c ≡ false → (r : Step) → Reads t (step_of t) (expect (10 ∷ []) (drop f t)) r → Reads t (step_of t) (line_end (drop f t)) r
+    pub ends_once : c ≡ false → (r : Step) → Reads t (step_of t) (expect (10 ∷ []) (drop f t)) r → Reads t (step_of t) (line_end (drop f t)) r
     unfolding line_end
-    ends-once q r a = record { read_is = a.read_is ∙ rw (goes_on, ← is, q); inside = a.inside }
+    ends_once q r a = record { read_is = a.read_is ∙ rw (goes_on, ← is, q); inside = a.inside }
 
 -- ---- The line at index `at`: the name of its task ends at e, that of its template at f.
 module _ (t : Text) (at e : ℕ) (room : at ≤ length t) (ends : drop e t ≡ behind in_line (drop at t)) (inside : e ≤ length t) where
-  pub line-empty : e ≡ at → bad (drop e t) ≡ line (drop at t)
+  pub line_empty : e ≡ at → bad (drop e t) ≡ line (drop at t)
   unfolding line
-  line-empty q = rw (← no_word in_line t at e room ends inside q) (ap (λ i. bad (drop i t)) q)
+  line_empty q = rw (← no_word in_line t at e room ends inside q) (ap (λ i. bad (drop i t)) q)
 
   module _ (task : e ≡ at → ⊥) (b : Bool) (is : b ≡ starts (32 ∷ []) (drop e t)) where
-    pub line-unspaced : not b ≡ true → bad (drop e t) ≡ line (drop at t)
+    pub line_unspaced : not b ≡ true → bad (drop e t) ≡ line (drop at t)
     unfolding line
-    line-unspaced q = rw (← a_word in_line t at e room ends inside task, one-not 32 (drop e t) (sym is ∙ not-true b q))
+    line_unspaced q = rw (← a_word in_line t at e room ends inside task, one-not 32 (drop e t) (sym is ∙ not-true b q))
 
     module _ (q : not b ≡ false) where
       spaced : (expect (32 ∷ []) (drop e t) ≡ got tt (drop 1 (drop e t))) × (0 < length (drop e t))
       spaced = one-yes 32 (drop e t) (sym is ∙ not-false b q)
 
-      pub line-past : e + 1 ≤ length t
-      line-past = omega (arith, spaced.1, length-drop e t)
+      pub line_past : e + 1 ≤ length t
+      line_past = omega (arith, spaced.1, length-drop e t)
 
       module _ (f : ℕ) (ends₂ : drop f t ≡ behind in_line (drop (e + 1) t)) (inside₂ : f ≤ length t) where
-        pub line-one : f ≡ e + 1 → bad (drop f t) ≡ line (drop at t)
+        pub line_one : f ≡ e + 1 → bad (drop f t) ≡ line (drop at t)
         unfolding line
-        line-one z =
-            rw (← a_word in_line t at e room ends inside task, spaced.0, drop-drop 1 e t, ← no_word in_line t (e + 1) f line-past ends₂ inside₂ z)
+        line_one z =
+            rw (← a_word in_line t at e room ends inside task, spaced.0, drop-drop 1 e t, ← no_word in_line t (e + 1) f line_past ends₂ inside₂ z)
             (ap (λ i. bad (drop i t)) z)
 
         module _ (template : f ≡ e + 1 → ⊥) where
@@ -69,18 +69,18 @@ module _ (t : Text) (at e : ℕ) (room : at ≤ length t) (ends : drop e t ≡ b
               ≡ after (line_end (drop f t)) (λ _ y. got (record { task = take (e - at) (drop at t); template = take (f - (e + 1)) (drop (e + 1) t) }) y)
           unfolding line
           two-names =
-              rw (← a_word in_line t at e room ends inside task, spaced.0, drop-drop 1 e t, ← a_word in_line t (e + 1) f line-past ends₂ inside₂ template)
+              rw (← a_word in_line t at e room ends inside task, spaced.0, drop-drop 1 e t, ← a_word in_line t (e + 1) f line_past ends₂ inside₂ template)
 
-          pub line-unended : (i : ℕ) → bad (drop i t) ≡ line_end (drop f t) → bad (drop i t) ≡ line (drop at t)
-          line-unended i q = rw (two-names, ← q)
+          pub line_unended : (i : ℕ) → bad (drop i t) ≡ line_end (drop f t) → bad (drop i t) ≡ line (drop at t)
+          line_unended i q = rw (two-names, ← q)
 
           module _ (n : ℕ) (ended : got tt (drop n t) ≡ line_end (drop f t)) (inside₃ : n ≤ length t) where
-            pub line-whole : got (record { task = take (e - at) (drop at t); template = take (f - (e + 1)) (drop (e + 1) t) }) (drop n t) ≡ line (drop at t)
-            line-whole = rw (two-names, ← ended)
+            pub line_whole : got (record { task = take (e - at) (drop at t); template = take (f - (e + 1)) (drop (e + 1) t) }) (drop n t) ≡ line (drop at t)
+            line_whole = rw (two-names, ← ended)
 
             -- The next line does not begin before the end of the template's name.
-            pub line-onward : f ≤ n
-            line-onward =
+            pub line_onward : f ≤ n
+            line_onward =
                 let b = below_of (sym ended) (line-end-below (drop f t)) in
                 omega (arith, b, length-drop f t, length-drop n t)
 

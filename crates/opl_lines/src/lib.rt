@@ -26,6 +26,7 @@ fn name_end(t: &[u8], at: usize) -> usize
 }
 
 // Reads the end of a line: a line feed, with or without a carriage return before it, or the end of the text.
+#[tactic(auto, using(crate::proofs::LineLaws::ends_here, crate::proofs::LineLaws::ends_twice, crate::proofs::LineLaws::ends_once))]
 fn line_end(t: &[u8], at: usize) -> Step
     requires { at ≤ length t.now }
     ensures { Reads t.now (step_of t.now) (line_end (drop at t.now)) result }
@@ -40,6 +41,7 @@ fn line_end(t: &[u8], at: usize) -> Step
 }
 
 // Reads the line that begins at `at`.
+#[tactic(auto, using(crate::proofs::LineLaws::line_empty, crate::proofs::LineLaws::line_unspaced))]
 pub fn read_line(t: &[u8], at: usize) -> Result<Line, BadByte>
     requires { at ≤ length t.now }
     ensures { ReadsLine t.now at result }

@@ -26,38 +26,38 @@ use Rattle.opl_tags.specs.declared.Attribute.TheVariants.{Pair, Done, Stop}
 
 -- ---- One attribute: its name, "=" and its value.
 module _ (s : Text) (at : ℕ) where
-  pub plain-unnamed : (e : BadByte) → Reads s (word_of s at) (name (drop at s)) (Err e) → ReadsAttribute s at (after (plain (drop at s)) (λ g u. got (just g) u)) Stop
+  pub plain_unnamed : (e : BadByte) → Reads s (word_of s at) (name (drop at s)) (Err e) → ReadsAttribute s at (after (plain (drop at s)) (λ g u. got (just g) u)) Stop
   unfolding plain
-  plain-unnamed e reads = record { read_is = rw (← reads.read_is); stands = tt }
+  plain_unnamed e reads = record { read_is = rw (← reads.read_is); stands = tt }
 
   module _ (end : ℕ) (named : Reads s (word_of s at) (name (drop at s)) (Ok end)) where
     pub name-past : at < end
     name-past = omega (arith, below_of (sym named.read_is) (word-strict in_name (drop at s)), length-drop at s, length-drop end s)
 
-    pub plain-unequal : (e : BadByte) → Reads s (step_of s) (equals (drop end s)) (Err e) → ReadsAttribute s at (after (plain (drop at s)) (λ g u. got (just g) u)) Stop
+    pub plain_unequal : (e : BadByte) → Reads s (step_of s) (equals (drop end s)) (Err e) → ReadsAttribute s at (after (plain (drop at s)) (λ g u. got (just g) u)) Stop
     unfolding plain
-    plain-unequal e reads = record { read_is = rw (← named.read_is, ← reads.read_is); stands = tt }
+    plain_unequal e reads = record { read_is = rw (← named.read_is, ← reads.read_is); stands = tt }
 
     module _ (quote : ℕ) (sign : Reads s (step_of s) (equals (drop end s)) (Ok quote)) where
       quote-past : end ≤ quote
       quote-past =
           omega (arith, below_of (sym sign.read_is) (equals-below (drop end s)), length-drop end s, length-drop quote s, sign.inside, named.inside)
 
-      pub plain-unvalued : (e : BadByte) → Reads s (value_of s (quote + 1)) (value (drop quote s)) (Err e) →
+      pub plain_unvalued : (e : BadByte) → Reads s (value_of s (quote + 1)) (value (drop quote s)) (Err e) →
           ReadsAttribute s at (after (plain (drop at s)) (λ g u. got (just g) u)) Stop
       unfolding plain
-      plain-unvalued e reads = record { read_is = rw (← named.read_is, ← sign.read_is, ← reads.read_is); stands = tt }
+      plain_unvalued e reads = record { read_is = rw (← named.read_is, ← sign.read_is, ← reads.read_is); stands = tt }
 
       module _ (close : ℕ) (closes : Reads s (value_of s (quote + 1)) (value (drop quote s)) (Ok close)) where
-        pub pair-room : (quote + 1 ≤ close) × (close + 1 ≤ length s)
-        pair-room = value_room s quote (Ok close) closes close refl sign.inside
+        pub pair_room : (quote + 1 ≤ close) × (close + 1 ≤ length s)
+        pair_room = value_room s quote (Ok close) closes close refl sign.inside
 
-        pub plain-pair : ReadsAttribute s at (after (plain (drop at s)) (λ g u. got (just g) u)) (Pair at end (quote + 1) close)
+        pub plain_pair : ReadsAttribute s at (after (plain (drop at s)) (λ g u. got (just g) u)) (Pair at end (quote + 1) close)
         unfolding plain
-        plain-pair =
+        plain_pair =
             record {
               read_is = rw (← named.read_is, ← sign.read_is, ← closes.read_is);
-              stands = record { behind = omega arith; name = name-past; apart = omega (arith, quote-past); order = pair-room.0; inside = pair-room.1 };
+              stands = record { behind = omega arith; name = name-past; apart = omega (arith, quote-past); order = pair_room.0; inside = pair_room.1 };
             }
 
 -- ---- The next attribute of a start tag, after white space up to index i.
@@ -69,22 +69,22 @@ earlier s at i h Stop w = tt
 
 module _ (s : Text) (at i : ℕ) (h : at ≤ length s) (to : drop i s ≡ behind white (drop at s)) (inside : i ≤ length s) (a b : Bool)
     (ends : a ≡ starts (62 ∷ []) (drop i s)) (empty : b ≡ starts (47 ∷ []) (drop i s)) where
-  pub given-done : a || b ≡ true → ReadsAttribute s at (given (drop at s)) (Done i)
+  pub given_done : a || b ≡ true → ReadsAttribute s at (given (drop at s)) (Done i)
   unfolding given text
-  given-done q = record { read_is = rw (← to, ← ends, ← empty, q); stands = (onward white s at i h to inside, inside) }
+  given_done q = record { read_is = rw (← to, ← ends, ← empty, q); stands = (onward white s at i h to inside, inside) }
 
   module _ (q : a || b ≡ false) where
-    pub given-unspaced : i ≡ at → ReadsAttribute s at (given (drop at s)) Stop
+    pub given_unspaced : i ≡ at → ReadsAttribute s at (given (drop at s)) Stop
     unfolding given text
-    given-unspaced e = record { read_is = rw (← to, ← ends, ← empty, q, ← no_word white s at i h to inside e); stands = tt }
+    given_unspaced e = record { read_is = rw (← to, ← ends, ← empty, q, ← no_word white s at i h to inside e); stands = tt }
 
     given_is : (i ≡ at → ⊥) → given (drop at s) ≡ after (plain (drop i s)) (λ g u. got (just g) u)
     unfolding given text
     given_is e = rw (← to, ← ends, ← empty, q, ← a_word white s at i h to inside e)
 
-    pub given-plain : (i ≡ at → ⊥) → (r : Attribute) → ReadsAttribute s i (after (plain (drop i s)) (λ g u. got (just g) u)) r →
+    pub given_plain : (i ≡ at → ⊥) → (r : Attribute) → ReadsAttribute s i (after (plain (drop i s)) (λ g u. got (just g) u)) r →
         ReadsAttribute s at (given (drop at s)) r
-    given-plain e r x =
+    given_plain e r x =
         record { read_is = x.read_is ∙ sym (ap placeless (given_is e)); stands = earlier s at i (onward white s at i h to inside) r x.stands }
 
 -- ---- All attributes, one by one. They do not depend on the count in the definition if it is at least the length of the text.
@@ -142,11 +142,11 @@ module _ (s : Text) (i : ℕ) where
       go (got g z) q = absurd (bad≢got q)
       go (bad z) q = refl
 
-  pub collected-none : (n : ℕ) (r : Attribute) → ReadsAttribute s i (given (drop i s)) r →
+  pub collected_none : (n : ℕ) (r : Attribute) → ReadsAttribute s i (given (drop i s)) r →
       ((from end value close : ℕ) → r ≡ Pair from end value close → ⊥) → collected n (drop i s) ≡ []
-  collected-none n (Pair from end value close) reads h = absurd (h from end value close refl)
-  collected-none n (Done j) reads h = collected-done n j reads
-  collected-none n Stop reads h = collected-stop n reads
+  collected_none n (Pair from end value close) reads h = absurd (h from end value close refl)
+  collected_none n (Done j) reads h = collected-done n j reads
+  collected_none n Stop reads h = collected-stop n reads
 
   module _ (from end value close : ℕ) (reads : ReadsAttribute s i (given (drop i s)) (Pair from end value close)) where
     given-is-pair : given (drop i s) ≡
@@ -172,9 +172,9 @@ module _ (s : Text) (at i : ℕ) (w : Text) (left : value_in w (given_at s at) �
   unfolding value_in
   value_none e = record { value = sym (left ∙ ap (value_in w) e); order = omega arith; inside = omega arith }
 
-  pub value-end : length s ≤ i → Valued s (value_in w (given_at s at)) (record { from = 0; to = 0 })
+  pub value_end : length s ≤ i → Valued s (value_in w (given_at s at)) (record { from = 0; to = 0 })
   unfolding collected
-  value-end h = value_none (let z : drop i s ≡ [] = drop_of_length-le s h in rw z (go (length s)))
+  value_end h = value_none (let z : drop i s ≡ [] = drop_of_length-le s h in rw z (go (length s)))
     where
       go : (n : ℕ) → collected n [] ≡ []
       go zero = refl
@@ -182,9 +182,9 @@ module _ (s : Text) (at i : ℕ) (w : Text) (left : value_in w (given_at s at) �
 
   module _ (from end value close : ℕ) (reads : ReadsAttribute s i (given (drop i s)) (Pair from end value close)) (b : Bool)
       (is : b ≡ same (take (end - from) (drop from s)) w) where
-    pub value-here : b ≡ true → Valued s (value_in w (given_at s at)) (record { from = value; to = close })
+    pub value_here : b ≡ true → Valued s (value_in w (given_at s at)) (record { from = value; to = close })
     unfolding value_in
-    value-here q =
+    value_here q =
         let z = reads.stands in
         record {
           value = sym (left ∙ rw (collected-pair s i from end value close reads (length s) (omega arith), ← is, q));
@@ -192,9 +192,9 @@ module _ (s : Text) (at i : ℕ) (w : Text) (left : value_in w (given_at s at) �
           inside = omega (arith, z.inside);
         }
 
-    pub value-later : b ≡ false → value_in w (given_at s at) ≡ value_in w (collected (length s) (drop (close + 1) s))
+    pub value_later : b ≡ false → value_in w (given_at s at) ≡ value_in w (collected (length s) (drop (close + 1) s))
     unfolding value_in
-    value-later q = left ∙ rw (collected-pair s i from end value close reads (length s) (omega arith), ← is, q)
+    value_later q = left ∙ rw (collected-pair s i from end value close reads (length s) (omega arith), ← is, q)
 
 -- ---- The attributes that are collected without judging are those that paper_opl's `givens` reads.
 by-given : (n : ℕ) (s : Text) → givens (suc n) s ≡ after (given s) (λ m u. if-found m (got [] u) (λ g. after (givens n u) (λ gs z. got (g ∷ gs) z)))

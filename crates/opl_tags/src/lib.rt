@@ -44,6 +44,7 @@ pub enum Tag {
 }
 
 // Reads an attribute without judging it.
+#[tactic(auto, using(crate::proofs::AttributeLaws::plain_unnamed, crate::proofs::AttributeLaws::plain_unequal, crate::proofs::AttributeLaws::plain_unvalued, crate::proofs::AttributeLaws::plain_pair))]
 fn plain(s: &[u8], at: usize) -> Attribute
     requires { at ≤ length s.now }
     ensures { ReadsAttribute s.now at (after (plain_of (drop at s.now)) (λ g u. got (just g) u)) result }
@@ -66,6 +67,7 @@ fn plain(s: &[u8], at: usize) -> Attribute
 }
 
 // Reads the next attribute of a start tag.
+#[tactic(auto, using(crate::proofs::AttributeLaws::given_done, crate::proofs::AttributeLaws::given_unspaced))]
 pub fn given(s: &[u8], at: usize) -> Attribute
     requires { at ≤ length s.now }
     ensures { ReadsAttribute s.now at (given_of (drop at s.now)) result }
@@ -137,6 +139,7 @@ fn open_at(s: &[u8], at: usize) -> usize
 }
 
 // Reads the next tag from `at` on, up to the end of its name; `None` if there is no further tag.
+#[tactic(auto, using(crate::proofs::TagLaws::read_on, crate::proofs::TagLaws::read_bad, crate::proofs::TagLaws::tag_unread, crate::proofs::TagLaws::tag_none, crate::proofs::TagLaws::tag_past, crate::proofs::TagLaws::tag_end))]
 pub fn read_tag(s: &[u8], at: usize) -> Option<Tag>
     requires { at ≤ length s.now }
     ensures { ReadsTag s.now (next_tag (drop at s.now)) result }

@@ -6,38 +6,15 @@ use native.Mathlib.Omega.{arith}
 use Rattle.std.proofs.lemmas.Result.{err_from_is_err_and}
 use Rattle.paper_opl.specs.Naming.{in_line}
 use Rattle.opl_text.proofs.Laws.{onward}
-use Rattle.opl_lines.proofs.LineLaws.{line-empty, line-unspaced, line-past, line-one, line-unended, line-whole, line-onward}
+use Rattle.opl_lines.proofs.LineLaws.{line_past, line_one, line_unended, line_whole, line_onward}
 use Rattle.opl_lines.proofs.read_line.Goals as goal
-
-pub returns-then-task-at : goal.returns-then-task-at
-returns-then-task-at c =
-    let args = c.args in
-    let pre = c.requires in
-    record {
-      read_is =
-          line-empty args.t.now args.at c.name_end-task.result pre c.name_end-task.ensures.rest c.name_end-task.ensures.inside
-          c.if-task-at.true;
-      stands = c.name_end-task.ensures.inside;
-    }
-
-pub returns-then-not-is_at : goal.returns-then-not-is_at
-returns-then-not-is_at c =
-    let args = c.args in
-    let pre = c.requires in
-    let name-end = c.name_end-task in
-    record {
-      read_is =
-          line-unspaced args.t.now args.at name-end.result pre name-end.ensures.rest name-end.ensures.inside c.if-task-at.false
-          c.is_at.result c.is_at.ensures (ap not c.if-not-is_at.true);
-      stands = name-end.ensures.inside;
-    }
 
 pub name_end-template-requires : goal.name_end-template-requires
 name_end-template-requires c =
     let args = c.args in
     let pre = c.requires in
     let name-end = c.name_end-task in
-    line-past args.t.now args.at name-end.result pre name-end.ensures.rest name-end.ensures.inside c.if-task-at.false
+    line_past args.t.now args.at name-end.result pre name-end.ensures.rest name-end.ensures.inside c.if-task-at.false
     c.is_at.result c.is_at.ensures (ap not c.if-not-is_at.false)
 
 pub returns-then-template-from : goal.returns-then-template-from
@@ -49,7 +26,7 @@ returns-then-template-from c =
     let is_at = c.is_at in
     record {
       read_is =
-          line-one args.t.now args.at name-end.result pre name-end.ensures.rest name-end.ensures.inside if1.false is_at.result
+          line_one args.t.now args.at name-end.result pre name-end.ensures.rest name-end.ensures.inside if1.false is_at.result
           is_at.ensures (ap not c.if-not-is_at.false) c.name_end-template.result c.name_end-template.ensures.rest
           c.name_end-template.ensures.inside c.if-template-from.true;
       stands = c.name_end-template.ensures.inside;
@@ -64,7 +41,7 @@ returns-in_err-next c =
     rw (refused.1, refused.2)
     (record {
       read_is =
-          line-unended t c.args.at task.result c.requires task.ensures.rest task.ensures.inside c.if-task-at.false c.is_at.result
+          line_unended t c.args.at task.result c.requires task.ensures.rest task.ensures.inside c.if-task-at.false c.is_at.result
           c.is_at.ensures (ap not c.if-not-is_at.false) template.result template.ensures.rest template.ensures.inside c.if-template-from.false
           c.in_err-next.field-0.0.at c.in_err-next.ensures.read_is;
       stands = c.in_err-next.ensures.inside;
@@ -79,7 +56,7 @@ returns c =
     let read = c.in_ok-next.ensures in
     record {
       read_is =
-          line-whole t c.args.at task.result c.requires task.ensures.rest task.ensures.inside c.if-task-at.false c.is_at.result
+          line_whole t c.args.at task.result c.requires task.ensures.rest task.ensures.inside c.if-task-at.false c.is_at.result
           c.is_at.ensures spaced template.result template.ensures.rest template.ensures.inside c.if-template-from.false c.in_ok-next.next
           read.read_is read.inside;
       stands =
@@ -88,12 +65,12 @@ returns c =
             template =
                 omega (
                   arith,
-                  onward in_line t (task.result + 1) template.result (line-past t c.args.at task.result c.requires task.ensures.rest
+                  onward in_line t (task.result + 1) template.result (line_past t c.args.at task.result c.requires task.ensures.rest
                       task.ensures.inside c.if-task-at.false c.is_at.result c.is_at.ensures spaced) template.ensures.rest template.ensures.inside,
                   c.if-template-from.false,
                 );
             next =
-                line-onward t c.args.at task.result c.requires task.ensures.rest task.ensures.inside c.if-task-at.false c.is_at.result
+                line_onward t c.args.at task.result c.requires task.ensures.rest task.ensures.inside c.if-task-at.false c.is_at.result
                 c.is_at.ensures spaced template.result template.ensures.rest template.ensures.inside c.if-template-from.false c.in_ok-next.next
                 read.read_is read.inside;
             inside = read.inside;

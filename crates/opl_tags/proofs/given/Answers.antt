@@ -1,25 +1,6 @@
 -- `given` meets its contract: it finds the end of the tag, or an attribute after white space.
-use Rattle.opl_tags.proofs.AttributeLaws.{given-done, given-unspaced, given-plain}
+use Rattle.opl_tags.proofs.AttributeLaws.{given_plain}
 use Rattle.opl_tags.proofs.given.Goals as goal
-
-pub returns-then-is_at : goal.returns-then-is_at
-returns-then-is_at c =
-    let args = c.args in
-    let pre = c.requires in
-    let skip-space = c.skip_space-i in
-    let is_at = c.is_at in
-    given-done args.s.now args.at skip-space.result pre skip-space.ensures.rest skip-space.ensures.inside is_at.result
-    c.is_at-2.result is_at.ensures c.is_at-2.ensures c.if-is_at.true
-
-pub returns-then-i-at : goal.returns-then-i-at
-returns-then-i-at c =
-    let args = c.args in
-    let pre = c.requires in
-    let skip-space = c.skip_space-i in
-    let is_at = c.is_at in
-    let is-at2 = c.is_at-2 in
-    given-unspaced args.s.now args.at skip-space.result pre skip-space.ensures.rest skip-space.ensures.inside is_at.result
-    is-at2.result is_at.ensures is-at2.ensures c.if-is_at.false c.if-i-at.true
 
 pub returns : goal.returns
 returns c =
@@ -28,5 +9,5 @@ returns c =
     let skip-space = c.skip_space-i in
     let is_at = c.is_at in
     let is-at2 = c.is_at-2 in
-    given-plain args.s.now args.at skip-space.result pre skip-space.ensures.rest skip-space.ensures.inside is_at.result is-at2.result
+    given_plain args.s.now args.at skip-space.result pre skip-space.ensures.rest skip-space.ensures.inside is_at.result is-at2.result
     is_at.ensures is-at2.ensures c.if-is_at.false c.if-i-at.false c.plain.result c.plain.ensures
