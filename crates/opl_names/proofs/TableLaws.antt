@@ -21,9 +21,9 @@ use Rattle.opl_names.proofs.NameLaws.{same_not, place_none}
 
 -- ---- The mark of a name: the bytes after the groups of four.
 module _ (s : Text) (h i : ℕ) {x : ℕ} where
-  pub rest-turn : {r v : ℕ} → i < length s → v ≡ get_or s i 0 → r ≡ (256 * h + v) % 4294967296 → rest_from h (drop i s) ≡ x → rest_from r (drop (i + 1) s) ≡ x
+  pub rest_turn : {r v : ℕ} → i < length s → v ≡ get_or s i 0 → r ≡ (256 * h + v) % 4294967296 → rest_from h (drop i s) ≡ x → rest_from r (drop (i + 1) s) ≡ x
   unfolding rest_from
-  rest-turn l v e f = rw (add-one, e, v) (rw (drop-cons s i 0 l) at f)
+  rest_turn l v e f = rw (add-one, e, v) (rw (drop-cons s i 0 l) at f)
 
   pub rest_end : length s ≤ i → rest_from h (drop i s) ≡ x → h ≡ x
   unfolding rest_from

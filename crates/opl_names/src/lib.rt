@@ -36,6 +36,7 @@ fn turn(h: u64, x: u64) -> u64
 }
 
 // The last bytes of a name, at most three, as one number: one round for all of them is faster than a round for each.
+#[tactic(auto, using(crate::proofs::TableLaws::rest_turn, crate::proofs::TableLaws::rest_end))]
 fn rest(name: &[u8], from: usize) -> u64
     requires { from ≤ length name.now }
     ensures { (result ≡ rest_from 0 (drop from name.now)) × (result < 4294967296) }
@@ -99,6 +100,7 @@ fn link(t: &[u64], k: usize) -> usize
 }
 
 // Whether number k is the name whose mark is m.
+#[tactic(auto, using(crate::proofs::TableLaws::is_last))]
 fn is_name(s: &[u8], t: &[u64], k: usize, m: u64, name: &[u8]) -> bool
     requires { (3 + 3 * k < length t.now) × (place_at t.now k + size_within (word_at t.now k) ≤ length s.now) }
     ensures { result ≡ eqb (mark_in (word_at t.now k)) m && same (name_at s.now t.now k) name.now }
@@ -131,6 +133,7 @@ fn find_marked(s: &[u8], t: &[u64], n: usize, name: &[u8], m: u64) -> Option<usi
 // ---- The table.
 
 // Empties the table, whatever its words were.
+#[tactic(auto, using(crate::proofs::AppendLaws::emptied))]
 pub fn empty(t: &mut [u64], n: usize)
     requires { (0 < n) × ((n ≤ 65536) × (length t.old ≡ 1 + 3 * n)) }
     ensures { Emptied n t.new }
