@@ -1,7 +1,7 @@
 -- For the proof of `next`: the mending of the rest of a file, record by record. A record that is accepted is
 -- written after those kept before, one that is refused is an entry of the report; and the end of the file.
 use Prim.Native.Nat.{ℕ, suc, ◌+◌, ◌-◌, ◌*◌, ◌/◌, ◌≤◌, ◌<◌}
-use mathlib.Core.Bool.{Bool, true, false, not, cond}
+use mathlib.Core.Bool.{false, cond}
 use mathlib.Core.List.{List, [], ◌∷◌, ◌++◌, append_assoc}
 use mathlib.Core.Path.{◌≡◌, refl, sym, ap, ◌∙◌}
 use native.Mathlib.Omega.{arith}
@@ -12,7 +12,7 @@ use borrow.Rule.Slice.PartMut.{put_mid}
 use Rattle.std.proofs.lemmas.List.{take-take}
 use Rattle.std.proofs.lemmas.Slice.{put_mid-paste}
 use lib.Seq.{paste, take-paste, drop-paste, drop-drop, length-take-le}
-use borrow.Author.Tests.{eq-eqb, ne_eqb, lt-ltb, le-ltb, not-true, not-false}
+use borrow.Author.Tests.{eq-eqb, ne_eqb, lt-ltb, le-ltb}
 use Rattle.paper_lower.specs.Lists.{each}
 use Rattle.paper_lower.specs.Checks.{SHAPE, granted}
 use Rattle.paper_lower.specs.Records.{Bytes}
@@ -20,7 +20,7 @@ use Rattle.paper_lower.specs.Tables.{Policy}
 use Rattle.paper_lower.specs.Load.{policy_answer}
 use Rattle.paper_lower.specs.Mend.{Mended, dropped, keeping, dropping, mend_from}
 use Rattle.std.specs.Prelude.{Ok, Err}
-use Rattle.replies.specs.Replies.{Reply, number_of, refusal_number}
+use Rattle.replies.specs.Replies.{refusal_number}
 use Rattle.replies.specs.declared.Refusal.{Refusal}
 use Rattle.replies.specs.Done.{Done}
 use Rattle.replies.proofs.ReplyLaws.{not-granted}

@@ -1,25 +1,24 @@
 -- Laws of the records of a policy buffer: the rows of all kinds in their order are the records
 -- of the definition; what the getters say of one row; and the empty policy has no records.
-use Prim.Native.Nat.{ℕ, zero, suc, ◌+◌, ◌%◌, ◌≤◌, ◌<◌}
+use Prim.Native.Nat.{ℕ, zero, suc, ◌+◌, ◌%◌, ◌<◌}
 use mathlib.Core.Bool.{Bool, true, false, cond}
 use mathlib.Core.List.{List, [], ◌∷◌, ◌++◌, append_assoc, append-nil}
-use mathlib.Core.Path.{◌≡◌, refl, sym, ap, ◌∙◌, subst, fun_ext}
+use mathlib.Core.Path.{◌≡◌, refl, sym, ap, ◌∙◌, fun_ext}
 use native.Mathlib.Nat.{zero-add}
 use native.Mathlib.Omega.{arith}
 use borrow.Author.Tests.{eqb-true}
 use lib.Dec.{eqb, ltb}
 use Rattle.paper_lower.specs.Sets.{Set, empty, has}
-use Rattle.paper_lower.specs.Lists.{Maybe, Every, holds, there, each}
+use Rattle.paper_lower.specs.Lists.{Maybe, holds, there, each}
 use Rattle.paper_lower.specs.Lists.Maybe.{none, just}
 use Rattle.paper_lower.specs.Records.{Record}
 use Rattle.paper_lower.specs.Tables.{Permission, no_policy}
 use Rattle.paper_lower.specs.Written.{in_turn, when, of_there, row, people_rows, task_rows, rule_rows, behind, records_written}
 use Rattle.sets.proofs.SetLaws.{has-empty}
 use Rattle.replies.specs.Cells.{column, rows_from, rows}
-use Rattle.records.proofs.Span.{Rest, one_each, others}
 use Rattle.policy.specs.Layout.{same, limit_count, limit_at, block_count, block_at, pair_count, pair_at, wall_count, walled_at}
 use Rattle.policy.specs.Reading.{rules_in, policy_of, value_of}
-use Rattle.policy_writing.specs.Lines.{Line, spread, limit_row, block_row, row_of_pair, wall_row, lines_in, line_missing, line_of, height_in, kind_in, side_in, kind_numbers}
+use Rattle.policy_writing.specs.Lines.{spread, limit_row, block_row, row_of_pair, wall_row, lines_in, line_of, kind_in, side_in}
 
 -- ---- The records of the rows from k on, with those of the first row split off; and the same as lists of rows.
 in-none : (f : ℕ → List Record) → in_turn 0 f ≡ []
@@ -54,19 +53,6 @@ each_rows g h n = each_from g h 0 n ∙ ap (in_turn n) (from_zero (λ i. g (h i)
 unfoldable pub lines_open : Unit {0}
 unfolding line_of lines_in side_in limit_count block_count pair_count wall_count
 lines_open = tt
-
--- ---- The kind with a given number.
-none-line : (xs : List Line) (k : ℕ) → Every (λ x. eqb x.kind k ≡ false) xs → line_of xs k ≡ line_missing k
-unfolding line_of
-none-line [] k h = refl
-none-line (x ∷ xs) k h = rw h.0 (none-line xs k h.1)
-
-pub other-kind : (l : List ℕ) (k : ℕ) → Rest (one_each kind_numbers) k → line_of (lines_in l) k ≡ line_missing k
-unfolding lines_in
-other-kind l k r = none-line (lines_in l) k (others kind_numbers k r)
-
-pub below : (l : List ℕ) {kind a : ℕ} (n bound : ℕ) → a < height_in l kind → kind ≡ n → height_in l n ≤ bound → a < bound
-below l {kind} {a} n bound h e b = let g : a < height_in l n = subst (λ (k : ℕ). a < height_in l k) e h in omega arith
 
 -- ---- All kinds: their records are those of the definition.
 laid-lines : (l : List ℕ) → behind (rows_from (kind_in l) 0 19) ≡ records_written (policy_of l)

@@ -1,12 +1,12 @@
 -- The results of writing: ROOM for a buffer of the wrong length or an output that is too short, and otherwise all records from the start of the output on.
 use Prim.Native.Nat.{ℕ, ◌+◌, ◌*◌, ◌≤◌, ◌<◌}
-use mathlib.Core.Bool.{Bool, true, false, cond, ◌&&◌}
-use mathlib.Core.List.{List, ◌++◌}
+use mathlib.Core.Bool.{Bool, true, false, ◌&&◌}
+use mathlib.Core.List.{List}
 use mathlib.Core.Path.{◌≡◌, refl, sym, ap, ◌∙◌}
 use native.Mathlib.Omega.{arith}
 use borrow.Author.Tests.{eq-eqb, ne_eqb, le-leb, lt-leb}
-use lib.Dec.{eqb, leb}
-use lib.ListN.{length, drop}
+use lib.Dec.{eqb}
+use lib.ListN.{length}
 use Rattle.paper_lower.specs.Checks.{GRANTED, ROOM}
 use Rattle.paper_lower.specs.Lists.{many, each}
 use Rattle.paper_lower.specs.Records.{Bytes}

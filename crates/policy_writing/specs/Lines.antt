@@ -84,10 +84,6 @@ row_in l kind a = (line_of (lines_in l) kind).cells a
 unfoldable pub kind_in : List ℕ → ℕ → List Record
 kind_in l kind = in_turn (height_in l kind) (row_in l kind)
 
--- The numbers of the kinds that are written.
-abbrev pub kind_numbers : List ℕ
-kind_numbers = 1 ∷ 2 ∷ 3 ∷ 4 ∷ 5 ∷ 6 ∷ 7 ∷ 8 ∷ 9 ∷ 10 ∷ 11 ∷ 12 ∷ 13 ∷ 14 ∷ 15 ∷ 16 ∷ 17 ∷ 18 ∷ []
-
 -- The roles that have permission b (kind 5) or the tasks that carry it (kind 8).
 unfoldable pub side_in : List ℕ → ℕ → ℕ → Set
 side_in l kind b = cond (eqb kind 5) ((policy_of l).permissions.holders b) ((policy_of l).permissions.carriers b)

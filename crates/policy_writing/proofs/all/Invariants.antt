@@ -1,7 +1,5 @@
 -- `all` meets its contract. The invariant of the loop: the records of all kinds below `kind` are written.
-use Prim.Native.Nat.{◌≤◌, ◌*◌, ◌-◌}
-use lib.ListN.{length}
-use mathlib.Core.Path.{◌≡◌}
+use Prim.Native.Nat.{◌*◌}
 use Rattle.paper_lower.specs.Written.{in_turn}
 use Rattle.policy_writing.specs.Lines.{kind_in}
 use Rattle.policy_writing.specs.Laying.{Laid}

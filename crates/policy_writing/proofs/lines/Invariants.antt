@@ -1,7 +1,5 @@
 -- `lines` meets its contract. The invariant of the loop: the records of all rows below a are written.
-use Prim.Native.Nat.{◌≤◌, ◌*◌, ◌-◌}
-use lib.ListN.{length}
-use mathlib.Core.Path.{◌≡◌}
+use Prim.Native.Nat.{◌*◌}
 use Rattle.paper_lower.specs.Written.{in_turn}
 use Rattle.policy_writing.specs.Lines.{row_in}
 use Rattle.policy_writing.specs.Laying.{Laid}

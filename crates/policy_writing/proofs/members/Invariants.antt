@@ -1,7 +1,4 @@
 -- `members` meets its contract. The invariant of the loop: the records of all members below b are written. An empty set has no records.
-use Prim.Native.Nat.{◌≤◌, ◌-◌}
-use lib.ListN.{length}
-use mathlib.Core.Path.{◌≡◌}
 use Rattle.paper_lower.specs.Sets.{has}
 use Rattle.paper_lower.specs.Written.{in_turn, when, row}
 use Rattle.policy_writing.specs.Laying.{Laid}

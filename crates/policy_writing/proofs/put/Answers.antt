@@ -1,6 +1,5 @@
 -- `put` meets its contract at its three returns: the record is absent, the output has no room for it, or it is written.
 use native.Mathlib.Omega.{arith}
-use borrow.Author.Tests.{not-true, not-false}
 use Rattle.paper_lower.specs.Written.{row}
 use Rattle.policy_writing.proofs.Laws.{absent, no_room, present}
 use Rattle.policy_writing.proofs.put.Goals as goal
