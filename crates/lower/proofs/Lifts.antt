@@ -3,7 +3,11 @@ use Prim.Native.Nat.{ℕ, zero, suc}
 use mathlib.Core.List.{List}
 use mathlib.Core.Path.{◌≡◌, refl, ap}
 use Rattle.paper_lower.specs.Checks.{granted}
+use Rattle.paper_lower.specs.Kinds.{chosen}
+use Rattle.paper_lower.specs.Roles.{role_kinds}
+use Rattle.paper_lower.specs.Sessions.{lower_kinds, session_kinds}
 use Rattle.paper_lower.specs.Tables.{Policy, Sessions, Lower, with_policy, with_sessions}
+use Rattle.records.specs.Limits.{limits_open}
 use Rattle.replies.specs.Replies.{Reply, number_of}
 use Rattle.replies.specs.Done.{Done}
 use Rattle.policy.specs.Reading.{policy_of}
@@ -11,22 +15,27 @@ use Rattle.sessions.specs.Reading.{sessions_of}
 use Rattle.sessions.specs.Lower.{lower_tables}
 use Rattle.lower.specs.Stepped.{Stepped}
 
+-- Unfolds what the kinds and their limits are computed from, for `step`.
+unfoldable pub step_open : Unit {0}
+unfolding chosen lower_kinds role_kinds session_kinds limits_open
+step_open = tt
+
 -- If one table is `next` or the old one, as the reply says, so are the tables of the lower part that contain it.
 lift : {T : Type 0} (put : T → Lower) (k : ℕ) (next old : T) {new : T} → new ≡ granted k next old → put new ≡ granted k (put next) (put old)
 lift put zero next old e = ap put e
 lift put (suc k) next old e = ap put e
 
 module _ {p s : List ℕ} {reply : ℕ} {r : Reply} where
-  pub of-policy : {p' : List ℕ} {next : Policy} → Done policy_of reply next p p' r → Stepped reply (with_policy (lower_tables p s) next) p s p' s r
-  of-policy {p'} {next} d =
+  pub of_policy : {p' : List ℕ} {next : Policy} → Done policy_of reply next p p' r → Stepped reply (with_policy (lower_tables p s) next) p s p' s r
+  of_policy {p'} {next} d =
       record {
         replies = d.replies;
         tables = lift (λ x. record { policy = x; sessions = sessions_of s }) reply next (policy_of p) d.tables;
         kept = λ h. (d.kept h, refl);
       }
 
-  pub of-sessions : {s' : List ℕ} {next : Sessions} → Done sessions_of reply next s s' r → Stepped reply (with_sessions (lower_tables p s) next) p s p s' r
-  of-sessions {s'} {next} d =
+  pub of_sessions : {s' : List ℕ} {next : Sessions} → Done sessions_of reply next s s' r → Stepped reply (with_sessions (lower_tables p s) next) p s p s' r
+  of_sessions {s'} {next} d =
       record {
         replies = d.replies;
         tables = lift (λ x. record { policy = policy_of p; sessions = x }) reply next (sessions_of s) d.tables;
