@@ -1,4 +1,4 @@
--- A change of the policy buffer alone, of the sessions buffer alone, or of neither, as a step (`Stepped`) of both buffers.
+-- A change of the sessions buffer alone, or of neither buffer, as a step (`Stepped`) of both. Also what the proof of `step` unfolds.
 use Prim.Native.Nat.{ℕ, zero, suc}
 use mathlib.Core.List.{List}
 use mathlib.Core.Path.{◌≡◌, refl, ap}
@@ -6,7 +6,7 @@ use Rattle.paper_lower.specs.Checks.{granted}
 use Rattle.paper_lower.specs.Kinds.{chosen}
 use Rattle.paper_lower.specs.Roles.{role_kinds}
 use Rattle.paper_lower.specs.Sessions.{lower_kinds, session_kinds}
-use Rattle.paper_lower.specs.Tables.{Policy, Sessions, Lower, with_policy, with_sessions}
+use Rattle.paper_lower.specs.Tables.{Sessions, Lower, with_sessions}
 use Rattle.records.specs.Limits.{limits_open}
 use Rattle.replies.specs.Replies.{Reply, number_of}
 use Rattle.replies.specs.Done.{Done}
@@ -26,14 +26,6 @@ lift put zero next old e = ap put e
 lift put (suc k) next old e = ap put e
 
 module _ {p s : List ℕ} {reply : ℕ} {r : Reply} where
-  pub of_policy : {p' : List ℕ} {next : Policy} → Done policy_of reply next p p' r → Stepped reply (with_policy (lower_tables p s) next) p s p' s r
-  of_policy {p'} {next} d =
-      record {
-        replies = d.replies;
-        tables = lift (λ x. record { policy = x; sessions = sessions_of s }) reply next (policy_of p) d.tables;
-        kept = λ h. (d.kept h, refl);
-      }
-
   pub of_sessions : {s' : List ℕ} {next : Sessions} → Done sessions_of reply next s s' r → Stepped reply (with_sessions (lower_tables p s) next) p s p s' r
   of_sessions {s'} {next} d =
       record {

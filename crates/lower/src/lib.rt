@@ -21,7 +21,7 @@ use sessions::{SESSIONS_WORDS, SessionsBuffer};
 use sets::Set;
 
 // Carries out a request that passed SHAPE and RANGE.
-#[tactic(auto, using(records::proofs::Passing::below, crate::proofs::Lifts::of_policy, crate::proofs::Lifts::of_sessions), unfolding(crate::proofs::Lifts::step_open))]
+#[tactic(auto, using(records::proofs::Passing::below), unfolding(crate::proofs::Lifts::step_open))]
 pub fn step(r: Record, p: &mut PolicyBuffer, s: &mut SessionsBuffer) -> Reply
     requires { Limits lower_forms r }
     ensures { Stepped (first ((chosen lower_kinds r.kind).checks (lower_tables p.old s.old) (paper_of r))) ((chosen lower_kinds r.kind).next (lower_tables p.old s.old) (paper_of r)) p.old s.old p.new s.new result }

@@ -1,3 +1,2 @@
 pub mod SessionLaws
 pub mod StoreLaws
-pub mod BothLaws
