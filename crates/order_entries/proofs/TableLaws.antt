@@ -7,27 +7,17 @@ use lib.Dec.{eqb}
 use Rattle.paper_lower.specs.Lists.{Maybe, holds, there, some, many, keep}
 use Rattle.paper_lower.specs.Lists.Maybe.{none, just}
 use Rattle.paper_upper.specs.Orders.{Entry, is_held, of_task, tasks_by, tasks_done, tasks_others}
-use Rattle.order_entries.specs.declared.Instance.{Instance}
 use Rattle.order_entries.specs.declared.Gathered.{Gathered}
+use Rattle.std.specs.Prelude.{Option, None, Some, is_some}
 use Rattle.order_entries.specs.Reading.{opened_of}
 use Rattle.order_entries.specs.Gathering.{digit, gathered_of}
 
 -- ---- Instances.
-pub holds_opened : (p : ℕ → Bool) (x : Instance) → holds p (opened_of x) ≡ (x.open && p x.template)
-unfolding holds
-holds_opened p x = go x.open
-  where
-    go : (b : Bool) → holds p (cond b (just x.template) none) ≡ (b && p x.template)
-    go true = refl
-    go false = refl
-
 -- The answer about an instance says whether it is open.
-pub open-there : (x : Instance) {y : Maybe ℕ} → opened_of x ≡ y → there y ≡ x.open
-open-there x e = rw (← e) (holds_opened (λ _. true) x ∙ and-true x.open)
-  where
-    and-true : (b : Bool) → b && true ≡ b
-    and-true true = refl
-    and-true false = refl
+pub open-there : (x : Option ℕ) {y : Maybe ℕ} → opened_of x ≡ y → there y ≡ is_some x
+unfolding holds
+open-there None e = rw (← e) refl
+open-there (Some j) e = rw (← e) refl
 
 -- ---- The parts of what `gather` collects.
 module _ (i u t : ℕ) (es : List Entry) {g : Gathered} (h : g ≡ gathered_of i u t es) where

@@ -1,12 +1,11 @@
 -- How an orders buffer with sound links reads as tables: the template of each open instance, and the entries of all instances.
-use Rattle.std.specs.Prelude.{ℕ, ◌+◌, ◌*◌, Bool, true, false, cond, ◌&&◌, ◌||◌, List, [], ◌≡◌, eqb, length, get_or}
+use Rattle.std.specs.Prelude.{ℕ, ◌+◌, ◌*◌, Bool, true, false, ◌&&◌, ◌||◌, List, [], ◌≡◌, eqb, length, get_or, Option, None, Some}
 use Rattle.std.specs.Int.Bits.{bit_and}
 use Rattle.paper_lower.specs.Lists.{Maybe, some_number_below, there, upd}
 use Rattle.paper_lower.specs.Lists.Maybe.{none, just}
 use Rattle.paper_upper.specs.Orders.{Entry, Orders, no_orders}
 use Rattle.order_links.specs.Chains.{orders_words, template_at, head_of, count_of, chain_word, word_at, walk_over, entries_in, sound_of, joined}
 use Rattle.order_links.specs.Stacks.{rev_onto}
-use Rattle.order_entries.specs.declared.Instance.{Instance}
 
 -- The tables of the buffer. The entries of each instance have the newest first; the order of the instances has no meaning.
 unfoldable pub orders_of : List ℕ → Orders
@@ -29,8 +28,9 @@ pub record Cleared (l : List ℕ) : Type 0 where
 -- ---- What the code's answers stand for.
 
 -- The template of an instance, if it is open.
-abbrev pub opened_of : Instance → Maybe ℕ
-opened_of r = cond r.open (just r.template) none
+abbrev pub opened_of : Option ℕ → Maybe ℕ
+opened_of None = none
+opened_of (Some j) = just j
 
 -- Whether the entry is of user u and is "an entry in an open instance".
 abbrev pub in_open_order : Orders → ℕ → Entry → Bool

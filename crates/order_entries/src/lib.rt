@@ -3,7 +3,7 @@
 // its definition if the links are sound.
 #![tactic(auto)]
 
-ghost use Rattle.std.specs.Prelude.{◌≡◌, ◌<◌, length, true, false, ◌&&◌};
+ghost use Rattle.std.specs.Prelude.{◌≡◌, ◌<◌, length, true, false, ◌&&◌, MatchOption, ⊤};
 ghost use Rattle.paper_lower.specs.Lists.{there, some, many};
 ghost use Rattle.paper_lower.specs.Lists.Maybe.{just};
 ghost use Rattle.paper_upper.specs.Orders.{is_held, is_held_by, are_in_order, held_of};
@@ -19,22 +19,13 @@ use order_links::{
 };
 use sets::{Set, pick};
 
-// An instance: whether it is open, and its template.
-#[derive(Clone, Copy)]
-pub struct Instance {
-    pub open: bool,
-    pub template: u64,
-}
-
-// Instance i.
+// The template of instance i, if it is open.
 #[tactic(auto, unfolding(crate::specs::Reading::orders_of, order_links::specs::Chains::template_at))]
-pub fn opened(o: &OrdersBuffer, i: u64) -> Instance
+pub fn opened(o: &OrdersBuffer, i: u64) -> Option<u64>
     requires { i < 64 }
-    ensures { (opened_of result ≡ (orders_of o.now).opened i) × (result.template < 16) }
+    ensures { (opened_of result ≡ (orders_of o.now).opened i) × MatchOption result ⊤ (λ j. j < 16) }
 {
-    let open = order_links::is_open(o, i);
-    let template = order_links::template(o, i);
-    Instance { open, template }
+    order_links::is_open(o, i).then_some(order_links::template(o, i))
 }
 
 // Opens instance i, of template j.
