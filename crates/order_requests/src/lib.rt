@@ -62,8 +62,7 @@ fn open_reply(p: &PolicyBuffer, o: &OrdersBuffer, a: u64, b: u64) -> Reply
     if !policy_lookups::has_task(p, b) {
         return Err(Refusal::Unknown);
     }
-    let x = order_entries::opened(o, a);
-    if x.open {
+    if order_entries::opened(o, a).is_some() {
         return Err(Refusal::Taken);
     }
     Ok(())
@@ -85,8 +84,7 @@ fn end_reply(o: &OrdersBuffer, a: u64) -> Reply
     requires { a < 64 }
     ensures { sound_of o.now ≡ true → EndJudged o.now a result }
 {
-    let x = order_entries::opened(o, a);
-    if !x.open {
+    if order_entries::opened(o, a).is_none() {
         return Err(Refusal::Unknown);
     }
     let held = order_entries::order_held(o, a);
@@ -110,8 +108,7 @@ pub fn figures_reply(o: &OrdersBuffer, a: u64) -> Reply
     requires { a < 64 }
     ensures { FiguresJudged o.now a result }
 {
-    let x = order_entries::opened(o, a);
-    if x.open {
+    if order_entries::opened(o, a).is_some() {
         Ok(())
     } else {
         Err(Refusal::Unknown)

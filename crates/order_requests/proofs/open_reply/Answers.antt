@@ -7,15 +7,16 @@ pub returns-then-not-has_task : goal.returns-then-not-has_task
 unfolding open_checks
 returns-then-not-has_task c = λ s. simp (← c.has_task.ensures, c.if-not-has_task.true)
 
-pub returns-then-x : goal.returns-then-x
+pub returns-then-is_some : goal.returns-then-is_some
 unfolding open_checks
-returns-then-x c =
+returns-then-is_some c =
     let has-task = c.has_task in
     λ s. simp (
       ← has-task.ensures,
       c.if-not-has_task.false,
-      open-there c.opened-x.result c.opened-x.ensures.0,
-      c.if-x.true,
+      open-there c.opened.result c.opened.ensures.0,
+      ← c.is_some.ensures,
+      c.if-is_some.true,
     )
 
 pub returns : goal.returns
@@ -25,6 +26,7 @@ returns c =
     λ s. simp (
       ← has-task.ensures,
       c.if-not-has_task.false,
-      open-there c.opened-x.result c.opened-x.ensures.0,
-      c.if-x.false,
+      open-there c.opened.result c.opened.ensures.0,
+      ← c.is_some.ensures,
+      c.if-is_some.false,
     )
