@@ -2,8 +2,8 @@
 use Prim.Native.Nat.{ℕ, ◌<◌}
 use mathlib.Core.Bool.{Bool, true, false, not, cond, ◌&&◌, ◌||◌, false≢true}
 use mathlib.Core.List.{List, [], ◌∷◌, ◌++◌}
-use mathlib.Core.Path.{◌≡◌, refl, sym, ap, ◌∙◌}
-use borrow.Author.Tests.{not-true, not-false, leb-false}
+use mathlib.Core.Path.{◌≡◌, refl, sym, ◌∙◌}
+use borrow.Author.Tests.{not-false, leb-false}
 use lib.Dec.{eqb, leb}
 use Rattle.std.specs.Bool.{then_some}
 use Rattle.paper_lower.specs.Sets.{meets}
@@ -11,7 +11,7 @@ use Rattle.paper_lower.specs.Lists.{Maybe, holds, there, is, some, many}
 use Rattle.paper_lower.specs.Lists.Maybe.{none, just}
 use Rattle.paper_lower.specs.Checks.{Check, first, FULL}
 use Rattle.paper_lower.specs.Policy.{down}
-use Rattle.paper_lower.proofs.ListLaws.{or-none, both}
+use Rattle.paper_lower.proofs.ListLaws.{or-none}
 use Rattle.paper_lower.proofs.CheckLaws.{Numbered, passed}
 use Rattle.paper_upper.specs.Orders.{Engine, is_held, of_task}
 use Rattle.paper_upper.specs.Rules.{gathered_checks, rule_checks, rule_place}
@@ -19,11 +19,9 @@ use Rattle.paper_upper.specs.Requests.{unknown, claim_checks, claim_place}
 use Rattle.replies.specs.Replies.{refusal_number}
 use Rattle.replies.specs.declared.Refusal.{Refusal}
 use Rattle.replies.proofs.DoneLaws.{stops, goes_on}
-use Rattle.order_entries.specs.Reading.{opened_of}
 use Rattle.order_entries.specs.Gathering.{gathered_of}
-use Rattle.order_entries.specs.declared.Instance.{Instance}
 use Rattle.order_entries.specs.declared.Gathered.{Gathered}
-use Rattle.order_entries.proofs.TableLaws.{holds_opened, gathered-mine, gathered-done, gathered-others, gathered-times, gathered-held}
+use Rattle.order_entries.proofs.TableLaws.{gathered-mine, gathered-done, gathered-others, gathered-times, gathered-held}
 use Rattle.order_claims.specs.Promises.{Known}
 
 holds-there : {A : Type 0} (p : A → Bool) (x : Maybe A) → holds p x ≡ true → there x ≡ true
@@ -39,19 +37,24 @@ module _ (t : Engine) (a b c : ℕ) where
   abbrev pub full_of : List Check
   full_of = (leb 2048 (many t.orders.entries), FULL) ∷ []
 
-  -- What `known` returns, by its tests.
-  pub template-known : (x : Instance) {live of : Bool} → opened_of x ≡ t.orders.opened b → x.template < 16 → live ≡ t.lower.sessions.live a
-      → of ≡ is x.template (t.lower.policy.tasks.template c) → Known t a b c (then_some (live && (x.open && of)) x.template)
-  unfolding unknown
-  template-known x {live} {of} e small l o =
-      go live x.open of (rw (← l, ← e, holds_opened (λ j. is j (t.lower.policy.tasks.template c)) x, ← o)) (λ h. sym e ∙ rw h)
+  -- What `known` returns: nothing of a closed instance, and otherwise what its tests say.
+  pub closed-unknown : none ≡ t.orders.opened b → unknown t a b c ≡ true
+  unfolding unknown holds
+  closed-unknown e = rw (← e) (go (t.lower.sessions.live a))
     where
-      go : (live opens of : Bool) → unknown t a b c ≡ not live || not (opens && of) → (opens ≡ true → t.orders.opened b ≡ just x.template)
-          → Known t a b c (then_some (live && (opens && of)) x.template)
-      go true true true u k = record { known = u; template = k refl; small = small }
-      go true true false u k = u
-      go true false of u k = u
-      go false opens of u k = u
+      go : (live : Bool) → not live || true ≡ true
+      go true = refl
+      go false = refl
+
+  pub template-known : (j : ℕ) {live of : Bool} → just j ≡ t.orders.opened b → j < 16 → live ≡ t.lower.sessions.live a
+      → of ≡ is j (t.lower.policy.tasks.template c) → Known t a b c (then_some (live && of) j)
+  unfolding unknown holds
+  template-known j {live} {of} e small l o = go live of (rw (← l, ← e, ← o))
+    where
+      go : (live of : Bool) → unknown t a b c ≡ not live || not of → Known t a b c (then_some (live && of) j)
+      go true true u = record { known = u; template = sym e; small = small }
+      go true false u = u
+      go false of u = u
 
   pub rules-next : {m : Bool} → unknown t a b c ≡ false
       → some (λ e. of_task b c e && is_held e.standing) t.orders.entries ≡ false

@@ -37,10 +37,9 @@ fn known(
     requires { InLimits b c a }
     ensures { Known (engine_tables p.now s.now o.now) a b c result }
 {
-    let x = order_entries::opened(o, b);
-    let open = sessions::live(s, a as usize)
-        & (x.open & policy::task_is_of(p, c as usize, x.template));
-    open.then_some(x.template)
+    let template = order_entries::opened(o, b)?;
+    let open = sessions::live(s, a as usize) & policy::task_is_of(p, c as usize, template);
+    open.then_some(template)
 }
 
 // Whether the subject is not live, or the task is not one of an open instance's template.

@@ -1,11 +1,10 @@
 -- Laws of the tables and of what is gathered, for crates above, which do not unfold the reading of the buffer.
 use Prim.Native.Nat.{ℕ}
-use mathlib.Core.Bool.{Bool, true, false, cond, ◌&&◌}
+use mathlib.Core.Bool.{Bool, true, false, ◌&&◌}
 use mathlib.Core.List.{List}
 use mathlib.Core.Path.{◌≡◌, refl, ap, ◌∙◌}
 use lib.Dec.{eqb}
 use Rattle.paper_lower.specs.Lists.{Maybe, holds, there, some, many, keep}
-use Rattle.paper_lower.specs.Lists.Maybe.{none, just}
 use Rattle.paper_upper.specs.Orders.{Entry, is_held, of_task, tasks_by, tasks_done, tasks_others}
 use Rattle.order_entries.specs.declared.Gathered.{Gathered}
 use Rattle.std.specs.Prelude.{Option, None, Some, is_some}
