@@ -26,7 +26,7 @@ lines_read (bad r) = []
 unfoldable pub lines_in : Text → List Line
 lines_in s = lines_read (lines (length s) s)
 
--- The meaning of the code's result for the line at an index: where its two names end, and where the next line begins.
+-- The meaning of the code's result for the line at an index: where its two names end, and where the next line begins. `Ends` is the code's struct `Line`.
 abbrev pub line_of : Text → ℕ → Result Ends BadByte → Read Line
 line_of t at (Ok l) =
     got (record { task = take (l.task - at) (drop at t); template = take (l.template - (l.task + 1)) (drop (l.task + 1) t) }) (drop l.next t)
