@@ -1,20 +1,15 @@
--- Laws about tables: a word past the end of a packed list, two tables that agree at every number, and the lengths of the lists.
+-- Laws about tables: two tables that agree at every number, and the lengths of the lists.
 use mathlib.Core.Path.{◌≡◌, refl, sym, subst}
 use mathlib.Core.List.{List, [], ◌∷◌}
 use mathlib.Core.Bool.{Bool, true, false}
-use Prim.Native.Nat.{ℕ, zero, suc, ◌*◌, ◌<◌, ◌≤◌}
+use Prim.Native.Nat.{ℕ, zero, suc, ◌<◌, ◌≤◌}
 use native.Mathlib.Omega.{arith}
 use lib.Dec.{eqb, leb}
-use lib.ListN.{length, drop, drop_of_length-le}
+use lib.ListN.{length}
 use borrow.Author.Tests.{eqb-true, eqb-false, leb-true, leb-false}
 use Rattle.paper_lower.specs.Lists.{each}
 use Rattle.paper_opl.specs.Elements.{elements}
-use Rattle.opl_table.specs.Numbers.{names, stages, joined, lefts, lists, packed, word_at}
-
--- A word past the end of a packed list is 0.
-pub past : (ns : List ℕ) (j : ℕ) → length ns ≤ 8 * j → 0 ≡ word_at ns j
-unfolding word_at packed
-past ns j h = let e : drop (8 * j) ns ≡ [] = drop_of_length-le ns h in rw e
+use Rattle.opl_table.specs.Numbers.{names, stages, joined, lefts, lists}
 
 -- ---- Two tables agree if their values for all numbers below n are the same list. One computation shows that.
 

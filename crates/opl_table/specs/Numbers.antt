@@ -1,6 +1,6 @@
 -- Numbers for names, for lists of children that may still follow in an open element, and for lists of attributes that may still be given, so that the code can
 -- carry them.
-use Rattle.std.specs.Prelude.{ℕ, zero, suc, ◌+◌, ◌*◌, ◌/◌, ◌%◌, ◌^◌, Bool, true, false, cond, List, [], ◌∷◌, ◌++◌, eqb, leb, get_or, take, drop}
+use Rattle.std.specs.Prelude.{ℕ, zero, suc, Bool, true, false, cond, List, [], ◌∷◌, ◌++◌, eqb, leb, get_or}
 use Rattle.paper_lower.specs.Lists.{each}
 use Rattle.paper_opl.specs.Reading.{Text, text}
 use Rattle.paper_opl.specs.Elements.{Class, Attribute, Times, Child, element, any_of, wider_modules, further_elements, elements, one, id, cardinality, given, optional}
@@ -146,22 +146,3 @@ first_in false id = cond (eqb id 5) 7 (cond (leb 65 id) 0 (get_or FIRST_STATE id
 abbrev pub given_in : Bool → ℕ → ℕ
 given_in true id = get_or FIRST_LIST id 0
 given_in false id = cond (leb 65 id) 0 (get_or FIRST_LIST id 0)
-
--- ---- Lists of numbers packed into words, for opl_turns.
-
--- Eight numbers in a word, the first in the lowest byte.
-unfoldable pub packed : List ℕ → ℕ
-packed [] = 0
-packed (n ∷ ns) = n + 256 * packed ns
-
--- Word j of a packed list.
-unfoldable pub word_at : List ℕ → ℕ → ℕ
-word_at ns j = packed (take 8 (drop (8 * j) ns))
-
--- Byte k % 8 of a word.
-abbrev pub digit : ℕ → ℕ → ℕ
-digit w k = w / 2 ^ (8 * (k % 8)) % 256
-
--- Number k of a packed list.
-unfoldable pub number_at : List ℕ → ℕ → ℕ
-number_at ns k = digit (word_at ns (k / 8)) k

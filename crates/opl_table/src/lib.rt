@@ -225,7 +225,7 @@ pub fn is_name(v: &[u8], id: u64) -> bool
 }
 
 // Number k of a table, and 0 past its end.
-fn number_at(table: &[u8], k: u64) -> u64
+pub fn number_at(table: &[u8], k: u64) -> u64
     ensures { result ≡ slice_index table.now k }
 {
     match table.get(k as usize) {
