@@ -4,7 +4,8 @@ use mathlib.Core.Path.{◌≡◌, refl, sym, ap, ◌∙◌}
 use mathlib.Core.Bool.{Bool, true, false, not}
 use mathlib.Core.List.{List, [], ◌∷◌}
 use native.Mathlib.Omega.{arith}
-use lib.ListN.{length, take, drop, length-drop, drop_of_length-le}
+use Rattle.std.specs.Prelude.{Option, Some, None, Ok, Err}
+use lib.ListN.{length, take, drop, length-drop}
 use lib.Seq.{length-take-le}
 use borrow.Author.Tests.{not-true, not-false, le-leb, lt-leb}
 use Rattle.paper_lower.specs.Lists.{every, keep, each}
@@ -15,25 +16,23 @@ use Rattle.paper_opl.specs.Naming.{value_of}
 use Rattle.paper_opl.proofs.Inversion.{bad≢got}
 use Rattle.paper_opl.proofs.Counts.{below_of}
 use Rattle.opl_names.specs.Table.{names_in, Sound}
-use Rattle.opl_names.specs.declared.Found.{Found}
 use Rattle.opl_table.specs.Numbers.{name_of}
-use Rattle.opl_tags.specs.Tags.{placeless, given_at, Valued, next_tag, next_tags, walk_at, Opens, ReadsTag}
+use Rattle.opl_tags.specs.Tags.{placeless, given_at, Valued, next_tag, walk_at, Opens, ReadsTag}
 use Rattle.opl_tags.specs.declared.Tag.{Tag}
-use Rattle.opl_tags.specs.declared.Tag.TheVariants.{Start, End, Halt}
+use Rattle.opl_tags.specs.declared.Tag.TheVariants.{Start, End}
 use Rattle.opl_tags.specs.declared.Part.{Part}
 use Rattle.opl_tags.proofs.AttributeLaws.{placed}
 use Rattle.opl_tags.proofs.Walked.{step, stop, next-below}
 use Rattle.opl_spaces.specs.Spaces.{limit_of, table_of, Apart, DeclaresIn}
-use Rattle.opl_line_names.specs.Names.{declares_in, attribute_of, declared_at, short, tag_names, kept_name, filled, Onward, Walks, Walking, DeclaresAll}
-use Rattle.opl_line_names.specs.declared.Walked.{Walked}
-use Rattle.opl_line_names.specs.declared.Walked.TheVariants.{Next, Long, Done}
+use Rattle.opl_line_names.specs.Names.{declares_in, attribute_of, declared_at, short, tag_names, kept_name, filled, Onward, Walked, Walks, Walking, DeclaresAll}
+use Rattle.opl_line_names.specs.declared.LongName.{LongName}
 
 pub untouched : (i : ℕ) (l : List ℕ) → Apart i l l
 untouched i l = record { room = refl; others = λ j h d. refl; list = refl }
 
 -- ---- One step: the tag that begins next at `at`.
-module _ (s : Text) (i at : ℕ) (r : Tag) (reads : ReadsTag s (next_tag (drop at s)) r) (l : List ℕ) (sound : Sound s (limit_of i) (table_of i l)) where
-  pub walked-halt : r ≡ Halt → Walking s i (tag_names s i) at l l Done
+module _ (s : Text) (i at : ℕ) (r : Option Tag) (reads : ReadsTag s (next_tag (drop at s)) r) (l : List ℕ) (sound : Sound s (limit_of i) (table_of i l)) where
+  pub walked-halt : r ≡ None → Walking s i (tag_names s i) at l l (Ok None)
   unfolding declared_at keep each
   walked-halt e = record { walks = (go (next_tag (drop at s)) refl (rw e at reads.read_is), refl); apart = untouched i l }
     where
@@ -44,7 +43,7 @@ module _ (s : Text) (i at : ℕ) (r : Tag) (reads : ReadsTag s (next_tag (drop a
   onward : (n : ℕ) (ts : List Tagged) → n ≤ length s → next_tag (drop at s) ≡ got ts (drop n s) → at < n
   onward n ts h e = omega (arith, below_of e (next-below (drop at s)), length-drop at s, length-drop n s)
 
-  pub walked_end : (n : ℕ) → r ≡ End n → Walking s i (tag_names s i) at l l (Next n)
+  pub walked_end : (n : ℕ) → r ≡ Some (End n) → Walking s i (tag_names s i) at l l (Ok (Some n))
   walked_end n e =
       let q = placed (next_tag (drop at s)) [] (drop n s) (rw e at reads.read_is) in
       let u : n ≤ length s = rw e at reads.stands in
@@ -61,7 +60,7 @@ module _ (s : Text) (i at : ℕ) (r : Tag) (reads : ReadsTag s (next_tag (drop a
         apart = untouched i l;
       }
 
-  module _ (name end : ℕ) (e : r ≡ Start name end) where
+  module _ (name end : ℕ) (e : r ≡ Some (Start name end)) where
     start-stands : Opens s name end
     start-stands = rw e at reads.stands
 
@@ -79,7 +78,7 @@ module _ (s : Text) (i at : ℕ) (r : Tag) (reads : ReadsTag s (next_tag (drop a
       unfolding declared_at keep each
       other q = rw (walk_is, ← is, q)
 
-      pub walked-other : not b ≡ true → Walking s i (tag_names s i) at l l (Next end)
+      pub walked-other : not b ≡ true → Walking s i (tag_names s i) at l l (Ok (Some end))
       walked-other q =
           let o = start-stands in
           let w = other (not-true b q) in
@@ -106,11 +105,11 @@ module _ (s : Text) (i at : ℕ) (r : Tag) (reads : ReadsTag s (next_tag (drop a
         unfolding declared_at keep each
         declares = rw (walk_is, ← is, not-false b q, ← valued.value)
 
-        pub walked-long : 64 < p.to - p.from → Walking s i (tag_names s i) at l l Long
+        pub walked-long : 64 < p.to - p.from → Walking s i (tag_names s i) at l l (Err (record {}))
         unfolding every
         walked-long h = record { walks = rw (declares, lt-leb (length said) 64 (omega (arith, said-length))); apart = untouched i l }
 
-        pub walked_on : (l' : List ℕ) (k : Found) → p.to - p.from ≤ 64 → DeclaresIn s i said l l' k → Walking s i (tag_names s i) at l l' (Next end)
+        pub walked_on : (l' : List ℕ) (k : Option ℕ) → p.to - p.from ≤ 64 → DeclaresIn s i said l l' k → Walking s i (tag_names s i) at l l' (Ok (Some end))
         unfolding every filled kept_name
         walked_on l' k h d =
             let o = start-stands in
@@ -143,7 +142,7 @@ pub left-first : (s : Text) (i : ℕ) (names : ℕ → List Text) (from : ℕ) (
 left-first s i names from l h x = record { inside = h; sound = x; fills = refl; shorts = refl; apart = untouched i l }
 
 module _ (s : Text) (i : ℕ) (names : ℕ → List Text) (from at : ℕ) (l l' : List ℕ) (left : Left s i names from at l l') where
-  pub left-last : names at ≡ [] → DeclaresAll s i (names from) l l' true
+  pub left-last : names at ≡ [] → DeclaresAll s i (names from) l l' (Ok tt)
   unfolding filled every
   left-last e =
       record {
@@ -152,15 +151,15 @@ module _ (s : Text) (i : ℕ) (names : ℕ → List Text) (from at : ℕ) (l l' 
       }
 
   module _ (l'' : List ℕ) (r : Walked) (walking : Walking s i names at l' l'' r) where
-    pub left-done : r ≡ Done → DeclaresAll s i (names from) l l'' true
-    left-done e = let w : Walks s i names at l' l'' Done = rw e at walking.walks in rw w.1 (left-last w.0)
+    pub left-done : r ≡ Ok None → DeclaresAll s i (names from) l l'' (Ok tt)
+    left-done e = let w : Walks s i names at l' l'' (Ok None) = rw e at walking.walks in rw w.1 (left-last w.0)
 
-    pub left-long : r ≡ Long → DeclaresAll s i (names from) l l'' false
-    left-long e =
-        let w : Walks s i names at l' l'' Long = rw e at walking.walks in
+    pub left-long : (e : LongName) → r ≡ Err e → DeclaresAll s i (names from) l l'' (Err e)
+    left-long e q =
+        let w : Walks s i names at l' l'' (Err e) = rw q at walking.walks in
         record { ends = left.shorts ∙ w; apart = together i l l' l'' left.apart walking.apart }
 
-    module _ (n : ℕ) (e : r ≡ Next n) where
+    module _ (n : ℕ) (e : r ≡ Ok (Some n)) where
       step-on : Onward s i names at n l' l''
       step-on = rw e at walking.walks
 
@@ -177,7 +176,3 @@ module _ (s : Text) (i : ℕ) (names : ℕ → List Text) (from at : ℕ) (l l' 
             shorts = left.shorts ∙ o.shorts;
             apart = together i l l' l'' left.apart walking.apart;
           }
-
-pub no-tags : (s : Text) (i at : ℕ) → length s ≤ at → tag_names s i at ≡ []
-unfolding declared_at keep each next_tags
-no-tags s i at h = let e : drop at s ≡ [] = drop_of_length-le s h in rw e

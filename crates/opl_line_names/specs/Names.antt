@@ -1,5 +1,5 @@
 -- The names that tags and task lines declare, in the tables of the scratch buffer.
-use Rattle.std.specs.Prelude.{ℕ, ◌+◌, ◌≤◌, ◌<◌, ◌≡◌, Bool, true, false, cond, ◌||◌, List, [], ◌∷◌, eqb, leb, length, get_or, drop}
+use Rattle.std.specs.Prelude.{ℕ, ◌+◌, ◌≤◌, ◌<◌, ◌≡◌, Bool, true, false, cond, ◌||◌, List, [], ◌∷◌, eqb, leb, length, get_or, drop, Option, Some, None, Result, Ok, Err}
 use Rattle.paper_lower.specs.Lists.{every, keep, each}
 use Rattle.paper_opl.specs.Reading.{Text, Read, same}
 use Rattle.paper_opl.specs.Reading.Read.{got, bad}
@@ -11,8 +11,7 @@ use Rattle.opl_lines.specs.Lines.{lines_read}
 use Rattle.opl_tags.specs.Tags.{walk_at}
 use Rattle.opl_tags.specs.declared.Part.{Part}
 use Rattle.opl_spaces.specs.Spaces.{limit_of, table_of, Apart}
-use Rattle.opl_line_names.specs.declared.Walked.{Walked}
-use Rattle.opl_line_names.specs.declared.Walked.TheVariants.{Next, Long, Done}
+use Rattle.opl_line_names.specs.declared.LongName.{LongName}
 
 -- Whether an element of this name declares a name of space i. It is the element with number 12 + i; objects are also declared in the blocks of walls.
 unfoldable pub declares_in : ℕ → Text → Bool
@@ -74,11 +73,15 @@ pub record Onward (s : Text) (i : ℕ) (names : ℕ → List Text) (at n : ℕ) 
   pub fills : filled (limit_of i) (names_in s (table_of i l)) (names at) ≡ filled (limit_of i) (names_in s (table_of i l')) (names n)
   pub shorts : every short (names at) ≡ every short (names n)
 
+-- The result of one step: the index to go on from, if there is a further line or tag.
+abbrev pub Walked : Type 0
+Walked = Result (Option ℕ) LongName
+
 -- The contract of one step, by its result.
 abbrev pub Walks : Text → ℕ → (ℕ → List Text) → ℕ → List ℕ → List ℕ → Walked → Type 0
-Walks s i names at l l' (Next n) = Onward s i names at n l l'
-Walks s i names at l l' Long = every short (names at) ≡ false
-Walks s i names at l l' Done = (names at ≡ []) × (l' ≡ l)
+Walks s i names at l l' (Ok (Some n)) = Onward s i names at n l l'
+Walks s i names at l l' (Ok None) = (names at ≡ []) × (l' ≡ l)
+Walks s i names at l l' (Err e) = every short (names at) ≡ false
 
 -- The same, and no other table changes.
 pub record Walking (s : Text) (i : ℕ) (names : ℕ → List Text) (at : ℕ) (l l' : List ℕ) (r : Walked) : Type 0 where
@@ -86,17 +89,17 @@ pub record Walking (s : Text) (i : ℕ) (names : ℕ → List Text) (at : ℕ) (
   pub apart : Apart i l l'
 
 -- After all steps: every name is declared, or one of them is too long.
-abbrev pub Ends : Text → ℕ → List Text → List ℕ → List ℕ → Bool → Type 0
-Ends s i all l l' true =
+abbrev pub Ends : Text → ℕ → List Text → List ℕ → List ℕ → Result (Unit {0}) LongName → Type 0
+Ends s i all l l' (Ok u) =
     (every short all ≡ true) × (Sound s (limit_of i) (table_of i l') × (names_in s (table_of i l') ≡ filled (limit_of i) (names_in s (table_of i l)) all))
-Ends s i all l l' false = every short all ≡ false
+Ends s i all l l' (Err e) = every short all ≡ false
 
 -- The same, and no other table changes.
-pub record DeclaresAll (s : Text) (i : ℕ) (all : List Text) (l l' : List ℕ) (r : Bool) : Type 0 where
+pub record DeclaresAll (s : Text) (i : ℕ) (all : List Text) (l l' : List ℕ) (r : Result (Unit {0}) LongName) : Type 0 where
   pub ends : Ends s i all l l' r
   pub apart : Apart i l l'
 
 -- The contract of `declare_line`, for a text whose lines are accepted from `at` on.
 pub record LineWalking (t : Text) (i at : ℕ) (l l' : List ℕ) (r : Walked) : Type 0 where
   pub walking : Walking t i (line_names t i) at l l' r
-  pub goes_on : (n : ℕ) → r ≡ Next n → accepted (lines (length t) (drop n t)) ≡ true
+  pub goes_on : (n : ℕ) → r ≡ Ok (Some n) → accepted (lines (length t) (drop n t)) ≡ true

@@ -8,8 +8,11 @@ use Rattle.opl_line_names.specs.Names.{line_names, accepted}
 use Rattle.opl_line_names.proofs.DeclaredLaws.{Left}
 use Rattle.opl_line_names.proofs.declare_lines.Given as goal
 
-abbrev pub invariant-loop-at : goal.invariant-loop-at
-invariant-loop-at l = Left l.t l.i (line_names l.t l.i) 0 l.at l.initial.w l.w × (accepted (lines (length l.t) (drop l.at l.t)) ≡ true)
+abbrev pub invariant-loop-next : goal.invariant-loop-next
+invariant-loop-next l = record {
+  left : Left l.t l.i (line_names l.t l.i) 0 l.at l.initial.w l.w;
+  rest : accepted (lines (length l.t) (drop l.at l.t)) ≡ true;
+}
 
-abbrev pub decreases-loop-at : goal.decreases-loop-at
-decreases-loop-at l = length l.t - l.at
+abbrev pub decreases-loop-next : goal.decreases-loop-next
+decreases-loop-next l = length l.t - l.at
