@@ -3,6 +3,7 @@ use Prim.Native.Nat.{ℕ, zero, suc, ◌+◌, ◌*◌, ◌-◌, ◌≤◌, ◌<�
 use mathlib.Core.Path.{◌≡◌, refl, sym, ap, ◌∙◌}
 use mathlib.Core.List.{List, [], ◌∷◌}
 use native.Mathlib.Omega.{arith}
+use Rattle.std.specs.Prelude.{Option, Some, None}
 use lib.Dec.{leb}
 use lib.ListN.{length, get_or, set, take, drop, length-drop, length-set}
 use lib.Seq.{get_or-set_same, get_or-set_other}
@@ -16,17 +17,17 @@ use Rattle.opl_spaces.specs.Spaces.{list_place, list_room, scratch_words, table_
 use Rattle.opl_spaces.proofs.SpaceLaws.{table_kept, list_set, list_at, list_length}
 use Rattle.opl_tags.specs.Tags.{placeless, given_at, next_tag, walk_at, Opens, ReadsTag}
 use Rattle.opl_tags.specs.declared.Tag.{Tag}
-use Rattle.opl_tags.specs.declared.Tag.TheVariants.{Start, End, Halt}
+use Rattle.opl_tags.specs.declared.Tag.TheVariants.{Start, End}
 use Rattle.opl_tags.proofs.AttributeLaws.{placed}
 use Rattle.opl_tags.proofs.Walked.{step, stop, next-below}
 use Rattle.opl_turns.specs.Meaning.{element_of}
 use Rattle.opl_turns.specs.Listing.{count_in, entry_in, end_of, id_of, longest, entered, Opened, Chain, last_of, Leads, Listing, Passed, Reads, Meets}
 use Rattle.opl_turns.specs.declared.Met.{Met}
-use Rattle.opl_turns.specs.declared.Met.TheVariants.{Begun, Ended, Over}
+use Rattle.opl_turns.specs.declared.Met.TheVariants.{Begun, Ended}
 
 -- ---- The next tag of the text.
-module _ (s : Text) (at : ℕ) (r : Tag) (reads : ReadsTag s (next_tag (drop at s)) r) where
-  pub read-over : r ≡ Halt → walk_at s at ≡ []
+module _ (s : Text) (at : ℕ) (r : Option Tag) (reads : ReadsTag s (next_tag (drop at s)) r) where
+  pub read-over : r ≡ None → walk_at s at ≡ []
   read-over e = go (next_tag (drop at s)) refl (rw e at reads.read_is)
     where
       go : (x : Read (List Tagged)) → next_tag (drop at s) ≡ x → bad [] ≡ placeless x → walk_at s at ≡ []
@@ -36,13 +37,13 @@ module _ (s : Text) (at : ℕ) (r : Tag) (reads : ReadsTag s (next_tag (drop at 
   onward : (n : ℕ) (ts : List Tagged) → n ≤ length s → next_tag (drop at s) ≡ got ts (drop n s) → at < n
   onward n ts h e = omega (arith, below_of e (next-below (drop at s)), length-drop at s, length-drop n s)
 
-  pub read-ended : (n : ℕ) → r ≡ End n → Passed s at n
+  pub read-ended : (n : ℕ) → r ≡ Some (End n) → Passed s at n
   read-ended n e =
       let q = placed (next_tag (drop at s)) [] (drop n s) (rw e at reads.read_is) in
       let u : n ≤ length s = rw e at reads.stands in
       record { past = onward n [] u q; inside = u; walk = step (drop at s) (drop n s) [] q }
 
-  module _ (name end : ℕ) (e : r ≡ Start name end) where
+  module _ (name end : ℕ) (e : r ≡ Some (Start name end)) where
     pub read-stands : Opens s name end
     read-stands = rw e at reads.stands
 
@@ -68,12 +69,12 @@ module _ (s : Text) (l : List ℕ) (k at : ℕ) where
   past-led h e = let z : count_in l - k ≡ 0 = omega arith in record { room = h; chain = rw z tt }
 
 module _ (s : Text) (l : List ℕ) (at k : ℕ) (leads : Leads s l k at) where
-  pub met-read : count_in l ≤ k → (r : Met) → Reads s at k r → Meets s l at k r
-  met-read h (Begun id end next) m = (m.0, past-led s l next end leads.room (omega (arith, m.1)))
-  met-read h (Ended n) m = (m, past-led s l k n leads.room h)
-  met-read h Over m = m
+  pub met-read : count_in l ≤ k → (r : Option Met) → Reads s at k r → Meets s l at k r
+  met-read h (Some (Begun id end next)) m = (m.0, past-led s l next end leads.room (omega (arith, m.1)))
+  met-read h (Some (Ended n)) m = (m, past-led s l k n leads.room h)
+  met-read h None m = m
 
-  pub met-entry : k < count_in l → Meets s l at k (Begun (id_of (entry_in l k)) (end_of (entry_in l k)) (k + 1))
+  pub met-entry : k < count_in l → Meets s l at k (Some (Begun (id_of (entry_in l k)) (end_of (entry_in l k)) (k + 1)))
   unfolding Chain
   met-entry h =
       let z : count_in l - k ≡ suc (count_in l - suc k) = omega arith in

@@ -4,6 +4,7 @@ use mathlib.Core.Path.{◌≡◌, refl, ap, ◌∙◌}
 use mathlib.Core.Bool.{Bool, true, false, cond}
 use mathlib.Core.List.{List, [], ◌∷◌}
 use native.Mathlib.Omega.{arith}
+use Rattle.std.specs.Prelude.{Option, Some, None}
 use lib.Dec.{eqb, leb}
 use borrow.Author.Tests.{eqb-false, leb-true}
 use Rattle.paper_lower.specs.Lists.{upd, Every}
@@ -21,7 +22,7 @@ use Rattle.opl_turns.specs.Listing.{Opened, Meets}
 use Rattle.opl_turns.specs.Turning.{context_of, tags_at, behind, turned_by, SmallTag, Stood, few_at, Steps, Turns}
 use Rattle.opl_turns.specs.declared.Cursor.{Cursor}
 use Rattle.opl_turns.specs.declared.Met.{Met}
-use Rattle.opl_turns.specs.declared.Met.TheVariants.{Begun, Ended, Over}
+use Rattle.opl_turns.specs.declared.Met.TheVariants.{Begun, Ended}
 use Rattle.opl_turns.specs.declared.Turned.TheVariants.{Says, Silent}
 use Rattle.opl_turns.proofs.MeaningLaws.{Meant, meant, kind-is, turn_is, kind-small}
 
@@ -74,13 +75,13 @@ module _ (c : Context) (t : Tagged) (ts : List Tagged) (k : ℕ) (kind : kind_at
     loud-fills ns f out = rw (kind, q, turned, numbered)
 
 -- ---- The tag at a cursor.
-module _ (s : Text) (l : List ℕ) (c : Cursor) (stood : Stood s c) (few : few_of (context_of c) ≡ true) (r : Met) (meets : Meets s l c.at c.entry r) where
-  pub turn-over : r ≡ Over → tags_at s c ≡ []
+module _ (s : Text) (l : List ℕ) (c : Cursor) (stood : Stood s c) (few : few_of (context_of c) ≡ true) (r : Option Met) (meets : Meets s l c.at c.entry r) where
+  pub turn-over : r ≡ None → tags_at s c ≡ []
   turn-over e = rw e at meets
 
-  pub turn-ended : (n : ℕ) → r ≡ Ended n → Turns s l c (Silent (record { at = n; entry = c.entry; sets = c.sets; parts = c.parts; walls = c.walls; blocks = c.blocks }))
+  pub turn-ended : (n : ℕ) → r ≡ Some (Ended n) → Turns s l c (Some (Silent (record { at = n; entry = c.entry; sets = c.sets; parts = c.parts; walls = c.walls; blocks = c.blocks })))
   turn-ended n e =
-      let m : Meets s l c.at c.entry (Ended n) = rw e at meets in
+      let m : Meets s l c.at c.entry (Some (Ended n)) = rw e at meets in
       let w = m.0.walk in (
         record {
           steps = record {
@@ -95,8 +96,8 @@ module _ (s : Text) (l : List ℕ) (c : Cursor) (stood : Stood s c) (few : few_o
         m.1,
       )
 
-  module _ (id end entry : ℕ) (e : r ≡ Begun id end entry) where
-    begun-is : Meets s l c.at c.entry (Begun id end entry)
+  module _ (id end entry : ℕ) (e : r ≡ Some (Begun id end entry)) where
+    begun-is : Meets s l c.at c.entry (Some (Begun id end entry))
     begun-is = rw e at meets
 
     abbrev o : Opened s c.at end id
@@ -126,7 +127,7 @@ module _ (s : Text) (l : List ℕ) (c : Cursor) (stood : Stood s c) (few : few_o
     steps : Steps s c n
     steps = record { past = o.past; stood = record { inside = o.inside; low = low; small = smalls.1 }; fews = fews }
 
-    pub turn-begun : Turns s l c (turned_by id c end entry)
+    pub turn-begun : Turns s l c (Some (turned_by id c end entry))
     turn-begun = go (eqb (kind_by c.sets id) 0) refl
       where
         k : kind_at (context_of c) here ≡ kind_by c.sets id
@@ -135,7 +136,7 @@ module _ (s : Text) (l : List ℕ) (c : Cursor) (stood : Stood s c) (few : few_o
         m : cond (called "hdsodtp_partition" here) (c.parts - 1) (cond (called "partition_object" here) (c.blocks - 1) 0) ≡ number_by c.parts c.blocks id
         m = rw (means.partition, means.object)
 
-        go : (b : Bool) → eqb (kind_by c.sets id) 0 ≡ b → Turns s l c (cond b (Silent n) (Says (kind_by c.sets id) (number_by c.parts c.blocks id) end n))
+        go : (b : Bool) → eqb (kind_by c.sets id) 0 ≡ b → Turns s l c (Some (cond b (Silent n) (Says (kind_by c.sets id) (number_by c.parts c.blocks id) end n)))
         go true q = (
           record {
             steps = steps;

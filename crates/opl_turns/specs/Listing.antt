@@ -1,12 +1,12 @@
 -- The list of start tags that one pass leaves in the scratch buffer for the next: their number, and a word for each, which holds the index where the tag's name
 -- ends and the number of its element.
-use Rattle.std.specs.Prelude.{ℕ, zero, suc, ◌+◌, ◌*◌, ◌-◌, ◌/◌, ◌%◌, ◌≤◌, ◌<◌, ◌≡◌, cond, List, [], ◌∷◌, leb, length, get_or, set}
+use Rattle.std.specs.Prelude.{ℕ, zero, suc, ◌+◌, ◌*◌, ◌-◌, ◌/◌, ◌%◌, ◌≤◌, ◌<◌, ◌≡◌, cond, List, [], ◌∷◌, leb, length, get_or, set, Option, Some, None}
 use Rattle.paper_opl.specs.Reading.{Text}
 use Rattle.opl_spaces.specs.Spaces.{list_place, list_room}
 use Rattle.opl_tags.specs.Tags.{given_at, walk_at}
 use Rattle.opl_turns.specs.Meaning.{element_of}
 use Rattle.opl_turns.specs.declared.Met.{Met}
-use Rattle.opl_turns.specs.declared.Met.TheVariants.{Begun, Ended, Over}
+use Rattle.opl_turns.specs.declared.Met.TheVariants.{Begun, Ended}
 
 -- The number of listed tags.
 abbrev pub count_in : List ℕ → ℕ
@@ -81,13 +81,13 @@ pub record Passed (s : Text) (at n : ℕ) : Type 0 where
   pub walk : walk_at s at ≡ walk_at s n
 
 -- The contract of `read`: the next tag from the text.
-abbrev pub Reads : Text → ℕ → ℕ → Met → Type 0
-Reads s at k (Begun id end next) = Opened s at end id × (next ≡ k)
-Reads s at k (Ended n) = Passed s at n
-Reads s at k Over = walk_at s at ≡ []
+abbrev pub Reads : Text → ℕ → ℕ → Option Met → Type 0
+Reads s at k (Some (Begun id end next)) = Opened s at end id × (next ≡ k)
+Reads s at k (Some (Ended n)) = Passed s at n
+Reads s at k None = walk_at s at ≡ []
 
 -- The contract of `meet`: the next tag, from the list or the text.
-abbrev pub Meets : Text → List ℕ → ℕ → ℕ → Met → Type 0
-Meets s l at k (Begun id end next) = Opened s at end id × Leads s l next end
-Meets s l at k (Ended n) = Passed s at n × Leads s l k n
-Meets s l at k Over = walk_at s at ≡ []
+abbrev pub Meets : Text → List ℕ → ℕ → ℕ → Option Met → Type 0
+Meets s l at k (Some (Begun id end next)) = Opened s at end id × Leads s l next end
+Meets s l at k (Some (Ended n)) = Passed s at n × Leads s l k n
+Meets s l at k None = walk_at s at ≡ []

@@ -1,5 +1,5 @@
 -- A pass over the tags of a text: a cursor is an index in the text, with the context that the tags before it determine.
-use Rattle.std.specs.Prelude.{ℕ, suc, ◌≤◌, ◌<◌, ◌≡◌, Bool, cond, List, [], ◌∷◌, eqb, length}
+use Rattle.std.specs.Prelude.{ℕ, suc, ◌≤◌, ◌<◌, ◌≡◌, Bool, cond, List, [], ◌∷◌, eqb, length, Option, Some, None}
 use Rattle.paper_lower.specs.Lists.{upd, Every}
 use Rattle.paper_lower.specs.Records.{Bytes, put_at}
 use Rattle.paper_opl.specs.Reading.{Text, text}
@@ -12,7 +12,7 @@ use Rattle.opl_turns.specs.Meaning.{kind_by, sets_by, parts_by, walls_by, blocks
 use Rattle.opl_turns.specs.Listing.{Leads}
 use Rattle.opl_turns.specs.declared.Cursor.{Cursor}
 use Rattle.opl_turns.specs.declared.Turned.{Turned}
-use Rattle.opl_turns.specs.declared.Turned.TheVariants.{Says, Silent, Done}
+use Rattle.opl_turns.specs.declared.Turned.TheVariants.{Says, Silent}
 
 -- The context of a cursor.
 abbrev pub context_of : Cursor → Context
@@ -90,7 +90,7 @@ pub record Tells (s : Text) (c : Cursor) (kind number end : ℕ) (n : Cursor) : 
       ≡ fill ns (context_of n) (upd f kind (suc (f kind))) (tags_at s n) (put_at out (f kind) (valued (record_said ns (saying_at s kind number end))))
 
 -- The contract of `turn`.
-abbrev pub Turns : Text → List ℕ → Cursor → Turned → Type 0
-Turns s l c (Says kind number end n) = Tells s c kind number end n × Led s l n
-Turns s l c (Silent n) = Passes s c n × Led s l n
-Turns s l c Done = tags_at s c ≡ []
+abbrev pub Turns : Text → List ℕ → Cursor → Option Turned → Type 0
+Turns s l c (Some (Says kind number end n)) = Tells s c kind number end n × Led s l n
+Turns s l c (Some (Silent n)) = Passes s c n × Led s l n
+Turns s l c None = tags_at s c ≡ []

@@ -5,15 +5,14 @@
 ghost use Rattle.std.specs.Prelude.{◌≡◌, true, ◌-◌, ◌≤◌, ◌<◌, length};
 ghost use Rattle.paper_opl.specs.Walk.{few as few_of};
 ghost use Rattle.opl_spaces.specs.Spaces.{scratch_words, list_of};
-ghost use Rattle.opl_table.specs.Numbers.{word_at, digit as digitOf};
-ghost use Rattle.opl_turns.specs.Meaning.{guesses, guess_of, element_of, kind_list, kind_by, sets_by, parts_by, walls_by, blocks_by, number_by, few_by};
+ghost use Rattle.opl_turns.specs.Meaning.{guess_of, element_of, kind_by, sets_by, parts_by, walls_by, blocks_by, number_by, few_by};
 ghost use Rattle.opl_turns.specs.Listing.{entered, Leads, Reads, Meets};
 ghost use Rattle.opl_turns.specs.Turning.{context_of, turned_by, Stood, Led, Turns};
 
 use opl_spaces::{LIST, LISTED};
 use opl_table::{
     CHINESE_WALL, CRITICAL_ROLE_SET, CW_PARTITION, DYNAMIC_SEPARATION, NO_NAME, PARTITION,
-    PARTITION_OBJECT, PARTITIONING, STATIC_SEPARATION, is_name,
+    PARTITION_OBJECT, PARTITIONING, STATIC_SEPARATION, is_name, number_at,
 };
 use opl_tags::{Tag, read_tag};
 
@@ -42,17 +41,15 @@ pub struct Cursor {
     pub blocks: usize,
 }
 
-// The next tag: a start tag of element `id` whose name ends at `end`, and the number of listed tags up to it; or an end tag, with the index to go on from; or
-// none.
+// A tag that was met: a start tag of element `id` whose name ends at `end`, and the number of listed tags up to it; or an end tag, with the index to go on from.
 #[derive(Clone, Copy)]
 pub enum Met {
     Begun { id: u64, end: usize, entry: usize },
     Ended(usize),
-    Over,
 }
 
-// What the next tag yields: a record of a kind, with the number of its partitioning or block, and the end of the tag's name; or no record; or `Done`, no
-// further tag. `next` is the position after it.
+// What a tag yields: a record of a kind, with the number of its partitioning or block, and the end of the tag's name; or no record. `next` is the position after
+// it.
 #[derive(Clone, Copy)]
 pub enum Turned {
     Says {
@@ -62,60 +59,25 @@ pub enum Turned {
         next: Cursor,
     },
     Silent(Cursor),
-    Done,
 }
 
 // ---- The element of a tag.
 
-// Byte k % 8 of a word.
-pub fn digit(w: u64, k: u64) -> u64
-    ensures { result ≡ digitOf w k }
-{
-    (w >> (8 * (k % 8))) % 256
-}
+// By a hash of a name: the only element that it can be. Listed are the elements that yield a record, declare a name, change the context or occur inside one
+// that yields a record; NO_NAME stands for none. This and `KINDS` are statics, because a local array would be built on the stack at each use.
+static GUESSES: [u8; 64] = [
+    127, 25, 29, 40, 127, 127, 23, 35, 15, 46, 127, 127, 14, 127, 33, 127, 127, 12, 67, 127, 24,
+    127, 127, 127, 69, 127, 127, 36, 127, 127, 127, 16, 127, 127, 127, 43, 127, 13, 127, 71, 127,
+    20, 127, 49, 72, 127, 127, 127, 127, 18, 127, 127, 127, 38, 127, 127, 127, 127, 17, 39, 30, 21,
+    127, 127,
+];
 
-// Word j of `guesses`. Tables of numbers are matches, because an array would be built on the stack at each use.
-fn guess_word(j: u64) -> u64
-    ensures { result ≡ word_at guesses j }
-{
-    match j {
-        0 => 0x23177f7f281d197f,
-        1 => 0x7f217f0e7f7f2e0f,
-        2 => 0x7f7f7f187f430c7f,
-        3 => 0x107f7f7f247f7f45,
-        4 => 0x477f0d7f2b7f7f7f,
-        5 => 0x7f7f7f48317f147f,
-        6 => 0x7f7f267f7f7f127f,
-        7 => 0x7f7f151e27117f7f,
-        _ => 0,
-    }
-}
-
-// Word j of `kind_list`.
-fn kind_word(j: u64) -> u64
-    ensures { result ≡ word_at kind_list j }
-{
-    match j {
-        0 => 0x0000000000000000,
-        1 => 0x0003020100000000,
-        2 => 0x0000000000050400,
-        3 => 0x0007080000000000,
-        4 => 0x0c0000000b000d00,
-        5 => 0x000f00000e000000,
-        6 => 0x0000000000001000,
-        7 => 0x0000000000000000,
-        8 => 0x0000000011000000,
-        9 => 0x0000000000000012,
-        _ => 0,
-    }
-}
-
-// A byte as a wider number, with its bound for the proofs.
-fn wide(b: u8) -> u64
-    ensures { (result ≡ b) × (result ≤ 255) }
-{
-    b as u64
-}
+// The kind of record that each element yields; 0 for none, and for a set of roles, whose kind depends on the context.
+static KINDS: [u8; 73] = [
+    0, 0, 0, 0, 0, 0, 0, 0, 0, 0, 0, 0, 1, 2, 3, 0, 0, 4, 5, 0, 0, 0, 0, 0, 0, 0, 0, 0, 0, 8, 7, 0,
+    0, 13, 0, 11, 0, 0, 0, 12, 0, 0, 0, 14, 0, 0, 15, 0, 0, 16, 0, 0, 0, 0, 0, 0, 0, 0, 0, 0, 0, 0,
+    0, 0, 0, 0, 0, 17, 0, 0, 0, 0, 18,
+];
 
 // The only element that a name can be, found by a hash of its length, its last byte and its first; NO_NAME if there is none.
 fn guess(v: &[u8]) -> u64
@@ -125,8 +87,8 @@ fn guess(v: &[u8]) -> u64
     if n == 0 {
         return NO_NAME;
     }
-    let h = (n as u64 + 47 * wide(v[n - 1]) + 3 * wide(v[0])) % 64;
-    digit(guess_word(h / 8), h)
+    let h = (n as u64 + 47 * u64::from(v[n - 1]) + 3 * u64::from(v[0])) % 64;
+    number_at(&GUESSES, h)
 }
 
 // The number of the element of this name, among those that matter after judging; NO_NAME for all others.
@@ -158,35 +120,34 @@ pub fn enter(s: &[u8], w: &mut [u64], end: usize, id: u64)
     w[LIST] = n as u64 + 1;
 }
 
-// Reads the next tag from `at` on in the text.
-fn read(s: &[u8], at: usize, entry: usize) -> Met
+// Reads the next tag from `at` on in the text; none if there is no further one.
+fn read(s: &[u8], at: usize, entry: usize) -> Option<Met>
     requires { at ≤ length s.now }
     ensures { Reads s.now at entry result }
 {
-    let t = read_tag(s, at);
+    let t = read_tag(s, at)?;
     match t {
-        Tag::Halt => Met::Over,
-        Tag::End(next) => Met::Ended(next),
+        Tag::End(next) => Some(Met::Ended(next)),
         Tag::Start { name, end } => {
             let id = element(&s[name..end]);
-            Met::Begun { id, end, entry }
+            Some(Met::Begun { id, end, entry })
         }
     }
 }
 
-// The next tag from `at` on, after `entry` listed tags: from the list if it has one more, and otherwise from the text.
-pub fn meet(s: &[u8], w: &[u64], at: usize, entry: usize) -> Met
+// The next tag from `at` on, after `entry` listed tags: from the list if it has one more, and otherwise from the text; none if there is no further one.
+pub fn meet(s: &[u8], w: &[u64], at: usize, entry: usize) -> Option<Met>
     requires { (length w.now ≡ scratch_words) × ((at ≤ length s.now) × Leads s.now (list_of w.now) entry at) }
     ensures { Meets s.now (list_of w.now) at entry result }
 {
     let n = w[LIST] as usize;
     if entry < n {
         let x = w[LIST + 1 + entry];
-        return Met::Begun {
+        return Some(Met::Begun {
             id: x % 128,
             end: (x / 128) as usize,
             entry: entry + 1,
-        };
+        });
     }
     read(s, at, entry)
 }
@@ -200,7 +161,7 @@ fn kind_by(sets: u64, id: u64) -> u64
     if id == CRITICAL_ROLE_SET {
         return sets;
     }
-    digit(kind_word(id / 8), id)
+    number_at(&KINDS, id)
 }
 
 // The kind of a set of roles after the tag of an element.
@@ -313,22 +274,14 @@ fn told(id: u64, c: Cursor, end: usize, entry: usize) -> Turned
     }
 }
 
-// Goes over the next tag. The counts of the position must be within their limits.
-pub fn turn(s: &[u8], w: &[u64], c: Cursor) -> Turned
+// Goes over the next tag; none if there is no further one. The counts of the position must be within their limits.
+pub fn turn(s: &[u8], w: &[u64], c: Cursor) -> Option<Turned>
     requires { (length w.now ≡ scratch_words) × (Stood s.now c × ((few_of (context_of c) ≡ true) × Led s.now (list_of w.now) c)) }
     ensures { Turns s.now (list_of w.now) c result }
 {
-    let t = meet(s, w, c.at, c.entry);
+    let t = meet(s, w, c.at, c.entry)?;
     match t {
-        Met::Over => Turned::Done,
-        Met::Ended(next) => Turned::Silent(Cursor {
-            at: next,
-            entry: c.entry,
-            sets: c.sets,
-            parts: c.parts,
-            walls: c.walls,
-            blocks: c.blocks,
-        }),
-        Met::Begun { id, end, entry } => told(id, c, end, entry),
+        Met::Ended(next) => Some(Turned::Silent(Cursor { at: next, ..c })),
+        Met::Begun { id, end, entry } => Some(told(id, c, end, entry)),
     }
 }
