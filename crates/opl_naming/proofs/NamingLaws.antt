@@ -1,9 +1,10 @@
 -- Laws about the pass that lists the tags and declares the names of all five spaces at once, and about declaring the names of both texts.
 use Prim.Native.Nat.{ℕ, ◌+◌, ◌-◌, ◌≤◌, ◌<◌}
 use mathlib.Core.Path.{◌≡◌, refl, sym, ap, ◌∙◌}
-use mathlib.Core.Bool.{Bool, true, false, not, ◌||◌}
+use mathlib.Core.Bool.{false, not, ◌||◌}
 use mathlib.Core.List.{List, []}
 use native.Mathlib.Omega.{arith}
+use Rattle.std.specs.Prelude.{Option, Some, None, Result, Ok, Err}
 use lib.Dec.{eqb, ltb}
 use lib.ListN.{length, take, drop, set, length-set}
 use lib.Seq.{get_or-set_same}
@@ -15,18 +16,16 @@ use Rattle.paper_opl.specs.Naming.{value_of}
 use Rattle.paper_opl.specs.Walk.{tags}
 use Rattle.paper_opl.proofs.Inversion.{on_test}
 use Rattle.opl_names.specs.Table.{names_in, Sound, Emptied}
-use Rattle.opl_names.specs.declared.Found.{Found}
 use Rattle.opl_table.specs.Numbers.{name_of}
 use Rattle.opl_tags.specs.Tags.{given_at, Valued, next_tag, walk_at, Opens, ReadsTag}
 use Rattle.opl_tags.specs.declared.Tag.{Tag}
-use Rattle.opl_tags.specs.declared.Tag.TheVariants.{Start, End, Halt}
+use Rattle.opl_tags.specs.declared.Tag.TheVariants.{Start, End}
 use Rattle.opl_tags.specs.declared.Part.{Part}
 use Rattle.opl_spaces.specs.Spaces.{limit_of, list_place, scratch_words, table_of, list_of, Empties, DeclaresIn}
 use Rattle.opl_spaces.proofs.SpaceLaws.{table_kept}
-use Rattle.opl_line_names.specs.Names.{declares_in, attribute_of, declared_at, short, tag_names, line_names, filled, Onward, DeclaresAll}
-use Rattle.opl_line_names.specs.declared.Walked.{Walked}
-use Rattle.opl_line_names.specs.declared.Walked.TheVariants.{Next, Long, Done}
-use Rattle.opl_line_names.proofs.DeclaredLaws.{walked-halt, walked_end, walked-other, walked-long, walked_on, no-tags}
+use Rattle.opl_line_names.specs.Names.{declares_in, attribute_of, declared_at, short, tag_names, line_names, filled, Onward, Walked, DeclaresAll}
+use Rattle.opl_line_names.specs.declared.LongName.{LongName as TooLong}
+use Rattle.opl_line_names.proofs.DeclaredLaws.{walked-halt, walked_end, walked-other, walked-long, walked_on}
 use Rattle.opl_said.specs.Said.{all_names, Held}
 use Rattle.opl_said.proofs.HeldLaws.{held}
 use Rattle.opl_turns.specs.Meaning.{element_of}
@@ -69,11 +68,11 @@ keeps : (s : Text) (i at n : ℕ) (l l₀ l₁ l' : List ℕ) → Onward s i (ta
     Keeps s i at n l l'
 keeps s i at n l l₀ l₁ l' o d e = record { sound = rw e o.sound; fills = rw (e, ← d) o.fills; shorts = o.shorts }
 
-module _ (s : Text) (at : ℕ) (r : Tag) (reads : ReadsTag s (next_tag (drop at s)) r) (l : List ℕ) (sound : AllSound s l) where
-  pub goes-halt : r ≡ Halt → Goes s at l l Done
+module _ (s : Text) (at : ℕ) (r : Option Tag) (reads : ReadsTag s (next_tag (drop at s)) r) (l : List ℕ) (sound : AllSound s l) where
+  pub goes-halt : r ≡ None → Goes s at l l (Ok None)
   goes-halt e = (λ i h. (walked-halt s i at r reads l (sound i h) e).walks.0, refl)
 
-  pub goes_end : (n : ℕ) → r ≡ End n → Goes s at l l (Next n)
+  pub goes_end : (n : ℕ) → r ≡ Some (End n) → Goes s at l l (Ok (Some n))
   goes_end n e =
       let p = read-ended s at r reads n e in
       record {
@@ -85,7 +84,7 @@ module _ (s : Text) (at : ℕ) (r : Tag) (reads : ReadsTag s (next_tag (drop at 
         lists = λ from h. listing-passed s from l at n p h;
       }
 
-  module _ (name end : ℕ) (e : r ≡ Start name end) where
+  module _ (name end : ℕ) (e : r ≡ Some (Start name end)) where
     pub goes-stands : Opens s name end
     goes-stands = read-stands s at r reads name end e
 
@@ -120,7 +119,7 @@ module _ (s : Text) (at : ℕ) (r : Tag) (reads : ReadsTag s (next_tag (drop at 
           let q : declares_in i v ≡ false = declared-by v i h ∙ ne_eqb (space_by (element_of v)) i (λ z. d (ap (λ (k : ℕ). space_by k) is ∙ z)) in
           (walked-other s i at r reads l (sound i h) name end e (declares_in i v) refl (ap not q)).walks
 
-      pub goes_other : ((i : ℕ) → i < 5 → space_by id ≡ i → ⊥) → Goes s at l l₁ (Next end)
+      pub goes_other : ((i : ℕ) → i < 5 → space_by id ≡ i → ⊥) → Goes s at l l₁ (Ok (Some end))
       goes_other d =
           record {
             past = opened.past;
@@ -135,7 +134,7 @@ module _ (s : Text) (at : ℕ) (r : Tag) (reads : ReadsTag s (next_tag (drop at 
         named : not (declares_in i v) ≡ false
         named = ap not (declared-by v i h ∙ eq-eqb (space_by (element_of v)) i (sym (ap (λ (k : ℕ). space_by k) is) ∙ here))
 
-        pub goes-long : 64 < p.to - p.from → Goes s at l l₁ Long
+        pub goes-long : 64 < p.to - p.from → Goes s at l l₁ (Err (record {}))
         goes-long q =
             record {
               space = i;
@@ -143,8 +142,8 @@ module _ (s : Text) (at : ℕ) (r : Tag) (reads : ReadsTag s (next_tag (drop at 
               long = (walked-long s i at r reads l (sound i h) name end e (declares_in i v) refl named p valued q).walks;
             }
 
-        pub goes_on : (l' : List ℕ) (k : Found) → p.to - p.from ≤ 64 → DeclaresIn s i (take (p.to - p.from) (drop p.from s)) l₁ l' k →
-            Goes s at l l' (Next end)
+        pub goes_on : (l' : List ℕ) (k : Option ℕ) → p.to - p.from ≤ 64 → DeclaresIn s i (take (p.to - p.from) (drop p.from s)) l₁ l' k →
+            Goes s at l l' (Ok (Some end))
         goes_on l' k q d =
             let o = (walked_on s i at r reads l₁ (goes-sound i h) name end e (declares_in i v) refl named p valued l' k q d).walks in
             record {
@@ -185,7 +184,7 @@ module _ (s : Text) (from : ℕ) (l : List ℕ) where
       }
 
   module _ (at : ℕ) (l' : List ℕ) (left : NamesLeft s from at l l') where
-    pub names-none : ((i : ℕ) → i < 5 → tag_names s i at ≡ []) → Fills s from l l' true
+    pub names-none : ((i : ℕ) → i < 5 → tag_names s i at ≡ []) → Fills s from l l' (Ok tt)
     unfolding filled every
     names-none e =
         record {
@@ -201,19 +200,16 @@ module _ (s : Text) (from : ℕ) (l : List ℕ) where
           lists = λ z. listing-led s from l' at (left.lists z);
         }
 
-    pub names-end : length s ≤ at → Fills s from l l' true
-    names-end h = names-none (λ i a. no-tags s i at h)
-
     module _ (r : Walked) (l'' : List ℕ) (goes : Goes s at l' l'' r) where
-      pub names-done : r ≡ Done → Fills s from l l'' true
-      names-done e = let g : Goes s at l' l'' Done = rw e at goes in rw g.1 (names-none g.0)
+      pub names-done : r ≡ Ok None → Fills s from l l'' (Ok tt)
+      names-done e = let g : Goes s at l' l'' (Ok None) = rw e at goes in rw g.1 (names-none g.0)
 
-      pub names-long : r ≡ Long → Fills s from l l'' false
-      names-long e =
-          let g : LongFrom s at = rw e at goes in
+      pub names-long : (e : TooLong) → r ≡ Err e → Fills s from l l'' (Err e)
+      names-long e q =
+          let g : LongFrom s at = rw q at goes in
           record { space = g.space; of-tags = g.of-tags; long = (left.spaces g.space g.of-tags).shorts ∙ g.long }
 
-      module _ (n : ℕ) (e : r ≡ Next n) where
+      module _ (n : ℕ) (e : r ≡ Ok (Some n)) where
         onwards : Onwards s at n l' l''
         onwards = rw e at goes
 
@@ -238,25 +234,23 @@ module _ (s : Text) (from : ℕ) (l : List ℕ) where
 
 -- ---- Emptying the spaces: the first i are empty.
 pub record EmptyLeft (l l' : List ℕ) (i : ℕ) : Type 0 where
-  pub few : i ≤ 7
   pub room : length l' ≡ length l
   pub emptied : (j : ℕ) → j < i → Emptied (limit_of j) (table_of j l')
 
 pub empty-first : (l : List ℕ) → EmptyLeft l l 0
-empty-first l = record { few = omega arith; room = refl; emptied = λ j h. absurd (omega arith) }
+empty-first l = record { room = refl; emptied = λ j h. absurd (omega arith) }
 
 pub empty-on : (l l' l'' : List ℕ) (i : ℕ) → i < 7 → EmptyLeft l l' i → Empties i l' l'' → EmptyLeft l l'' (i + 1)
 empty-on l l' l'' i h left e =
     record {
-      few = omega arith;
       room = e.apart.room ∙ left.room;
       emptied = λ j a. on_test (eqb j i)
           (λ u. let z = eqb-true j i u in rw z e.emptied)
           (λ u. let z = eqb-false j i u in rw (e.apart.others j (omega arith) z) (left.emptied j (omega (arith, z))));
     }
 
-pub empty-end : (l l' : List ℕ) (i : ℕ) → length l ≡ scratch_words → 7 ≤ i → EmptyLeft l l' i → AllEmptied l (set l' list_place 0)
-empty-end l l' i room h left =
+pub empty-end : (l l' : List ℕ) → length l ≡ scratch_words → EmptyLeft l l' 7 → AllEmptied l (set l' list_place 0)
+empty-end l l' room left =
     record {
       room = length-set l' list_place 0 ∙ left.room;
       emptied = λ j a. rw (table_kept j a l' list_place 0 (omega arith)) (left.emptied j (omega arith));
@@ -280,8 +274,8 @@ module _ (s t : Text) (from : ℕ) (same-tags : tags s ≡ walk_at s from) where
         long = ap (every short) (of-tags s t g.space g.of-tags ∙ ap (declared_at g.space) same-tags) ∙ g.long;
       }
 
-  pub long-line : (i : ℕ) (l l' : List ℕ) → 5 ≤ i → i < 7 → DeclaresAll t i (line_names t i 0) l l' false → LongName s t
-  long-line i l l' a b d = record { space = i; of-seven = b; long = ap (every short) (of-lines s t i a) ∙ d.ends }
+  pub long-line : (i : ℕ) (l l' : List ℕ) (e : TooLong) → 5 ≤ i → i < 7 → DeclaresAll t i (line_names t i 0) l l' (Err e) → LongName s t
+  long-line i l l' e a b d = record { space = i; of-seven = b; long = ap (every short) (of-lines s t i a) ∙ d.ends }
 
   module _ (l₀ l₁ l₂ : List ℕ) (room : length l₀ ≡ scratch_words) (emptied : AllEmptied l₀ l₁) where
     pub empty-sound : AllSound s l₁
@@ -291,13 +285,13 @@ module _ (s t : Text) (from : ℕ) (same-tags : tags s ≡ walk_at s from) where
       pub tasks-sound : Sound t (limit_of 5) (table_of 5 l₂)
       tasks-sound = rw (filled-tags.others 5 (omega arith) (omega arith)) ((emptied.emptied 5 (omega arith)).sound t)
 
-      module _ (l₃ : List ℕ) (tasks : DeclaresAll t 5 (line_names t 5 0) l₂ l₃ true) where
+      module _ (l₃ : List ℕ) (tasks : DeclaresAll t 5 (line_names t 5 0) l₂ l₃ (Ok tt)) where
         pub templates-sound : Sound t (limit_of 6) (table_of 6 l₃)
         templates-sound =
             rw (tasks.apart.others 6 (omega arith) (λ e. omega (arith, e)) ∙ filled-tags.others 6 (omega arith) (omega arith))
             ((emptied.emptied 6 (omega arith)).sound t)
 
-        module _ (l₄ : List ℕ) (templates : DeclaresAll t 6 (line_names t 6 0) l₃ l₄ true) where
+        module _ (l₄ : List ℕ) (templates : DeclaresAll t 6 (line_names t 6 0) l₃ l₄ (Ok tt)) where
           tags-stay : (i : ℕ) → i < 5 → table_of i l₄ ≡ table_of i l₂
           tags-stay i h = templates.apart.others i (omega arith) (λ e. omega (arith, e)) ∙ tasks.apart.others i (omega arith) (λ e. omega (arith, e))
 
@@ -342,10 +336,10 @@ module _ (s t : Text) (from : ℕ) (same-tags : tags s ≡ walk_at s from) where
 
 -- The result of the last call is the result of `name_all`.
 module _ (s t : Text) (from : ℕ) (same-tags : tags s ≡ walk_at s from) (l₀ l₁ l₂ l₃ l₄ : List ℕ) (room : length l₀ ≡ scratch_words) (emptied : AllEmptied l₀ l₁)
-    (filled-tags : AllFilled s from l₁ l₂) (tasks : DeclaresAll t 5 (line_names t 5 0) l₂ l₃ true) where
-  pub named-all : (r : Bool) → DeclaresAll t 6 (line_names t 6 0) l₃ l₄ r → Names s t from l₄ r
-  named-all true d = (
+    (filled-tags : AllFilled s from l₁ l₂) (tasks : DeclaresAll t 5 (line_names t 5 0) l₂ l₃ (Ok tt)) where
+  pub named-all : (r : Result (Unit {0}) TooLong) → DeclaresAll t 6 (line_names t 6 0) l₃ l₄ r → Names s t from l₄ r
+  named-all (Ok u) d = (
     all_held s t from same-tags l₀ l₁ l₂ room emptied filled-tags l₃ tasks l₄ d,
     all_listed s t from same-tags l₀ l₁ l₂ room emptied filled-tags l₃ tasks l₄ d,
   )
-  named-all false d = long-line s t from same-tags 6 l₃ l₄ (omega arith) (omega arith) d
+  named-all (Err e) d = long-line s t from same-tags 6 l₃ l₄ e (omega arith) (omega arith) d

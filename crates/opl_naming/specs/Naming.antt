@@ -1,14 +1,13 @@
 -- The names of all seven spaces in the scratch buffer, by one pass over the tags and the task lines; and the list of the tags, by the same pass.
-use Rattle.std.specs.Prelude.{ℕ, ◌-◌, ◌≤◌, ◌<◌, ◌≡◌, Bool, true, false, cond, List, [], eqb, ltb, length}
+use Rattle.std.specs.Prelude.{ℕ, ◌-◌, ◌≤◌, ◌<◌, ◌≡◌, true, false, cond, List, [], eqb, ltb, length, Some, None, Result, Ok, Err}
 use Rattle.paper_lower.specs.Lists.{every}
 use Rattle.paper_opl.specs.Reading.{Text}
 use Rattle.paper_opl.specs.Walk.{tags}
 use Rattle.opl_names.specs.Table.{names_in, Sound, Emptied}
 use Rattle.opl_table.specs.Numbers.{PARTITION-OBJECT}
 use Rattle.opl_spaces.specs.Spaces.{limit_of, table_of, list_of}
-use Rattle.opl_line_names.specs.Names.{declared_at, short, tag_names, line_names, filled}
-use Rattle.opl_line_names.specs.declared.Walked.{Walked}
-use Rattle.opl_line_names.specs.declared.Walked.TheVariants.{Next, Long, Done}
+use Rattle.opl_line_names.specs.Names.{declared_at, short, tag_names, line_names, filled, Walked}
+use Rattle.opl_line_names.specs.declared.LongName.{LongName as TooLong}
 use Rattle.opl_said.specs.Said.{all_names, Held}
 use Rattle.opl_turns.specs.Listing.{count_in, Leads, Listing}
 
@@ -41,9 +40,9 @@ pub record LongFrom (s : Text) (at : ℕ) : Type 0 where
 
 -- The contract of `declare_tag`.
 abbrev pub Goes : Text → ℕ → List ℕ → List ℕ → Walked → Type 0
-Goes s at l l' (Next n) = Onwards s at n l l'
-Goes s at l l' Long = LongFrom s at
-Goes s at l l' Done = ((i : ℕ) → i < 5 → tag_names s i at ≡ []) × (l' ≡ l)
+Goes s at l l' (Ok (Some n)) = Onwards s at n l l'
+Goes s at l l' (Err e) = LongFrom s at
+Goes s at l l' (Ok None) = ((i : ℕ) → i < 5 → tag_names s i at ≡ []) × (l' ≡ l)
 
 -- Each of the five tables is consistent.
 abbrev pub AllSound : Text → List ℕ → Type 0
@@ -65,9 +64,9 @@ pub record AllFilled (s : Text) (from : ℕ) (l l' : List ℕ) : Type 0 where
   pub lists : count_in (list_of l) ≡ 0 → Leads s (list_of l') 0 from
 
 -- The contract of `declare_tags`.
-abbrev pub Fills : Text → ℕ → List ℕ → List ℕ → Bool → Type 0
-Fills s from l l' true = AllFilled s from l l'
-Fills s from l l' false = LongFrom s from
+abbrev pub Fills : Text → ℕ → List ℕ → List ℕ → Result (Unit {0}) TooLong → Type 0
+Fills s from l l' (Ok u) = AllFilled s from l l'
+Fills s from l l' (Err e) = LongFrom s from
 
 -- ---- The contract of `empty_all`: no names in any space, and no tags in the list.
 pub record AllEmptied (l l' : List ℕ) : Type 0 where
@@ -88,6 +87,6 @@ pub record LongName (s t : Text) : Type 0 where
   pub long : every short (declared_of s t space) ≡ false
 
 -- The contract of `name_all`; the tags of the first text begin at `from`.
-abbrev pub Names : Text → Text → ℕ → List ℕ → Bool → Type 0
-Names s t from l true = Held s t (all_names s t) l × Leads s (list_of l) 0 from
-Names s t from l false = LongName s t
+abbrev pub Names : Text → Text → ℕ → List ℕ → Result (Unit {0}) TooLong → Type 0
+Names s t from l (Ok u) = Held s t (all_names s t) l × Leads s (list_of l) 0 from
+Names s t from l (Err e) = LongName s t

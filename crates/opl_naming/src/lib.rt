@@ -9,7 +9,7 @@ ghost use Rattle.opl_tags.specs.Tags.{walk_at};
 ghost use Rattle.opl_line_names.specs.Names.{attribute_of, accepted};
 ghost use Rattle.opl_naming.specs.Naming.{space_by, AllSound, Goes, Fills, AllEmptied, Names};
 
-use opl_line_names::{Walked, declare_lines};
+use opl_line_names::{LongName, declare_lines};
 use opl_spaces::{BY_TAGS, LIST, LONGEST_NAME, OBJECTS, SPACES, TASKS, TEMPLATES, declare};
 use opl_table::{
     OBJECT, OBJECT_ID, OPERATION_ID, PARTITION_OBJECT, PERMISSION_ID, ROLE_ID, USER, USER_ID,
@@ -18,6 +18,7 @@ use opl_tags::{Tag, read_tag, value_place};
 use opl_turns::{element, enter};
 
 // The attribute that declares a name of space i.
+#[tactic(auto, unfolding(opl_line_names::specs::Names::attribute_of))]
 fn attribute(i: usize) -> u64
     requires { i < 5 }
     ensures { result ≡ attribute_of i }
@@ -47,55 +48,45 @@ fn space(e: u64) -> usize
     (e - USER) as usize
 }
 
-// Goes over the next tag from `at` on: lists it, and declares its name if it declares one.
-fn declare_tag(s: &[u8], w: &mut [u64], at: usize) -> Walked
+// Goes over the next tag from `at` on: lists it, and declares its name if it declares one. Returns the index to go on from; none if there is no further tag.
+fn declare_tag(s: &[u8], w: &mut [u64], at: usize) -> Result<Option<usize>, LongName>
     requires { (length w.old ≡ scratch_words) × (AllSound s.now w.old × (at ≤ length s.now)) }
     ensures { Goes s.now at w.old w.new result }
 {
-    let t = read_tag(s, at);
+    let Some(t) = read_tag(s, at) else {
+        return Ok(None);
+    };
     match t {
-        Tag::Halt => Walked::Done,
-        Tag::End(next) => Walked::Next(next),
+        Tag::End(next) => Ok(Some(next)),
         Tag::Start { name, end } => {
             let e = element(&s[name..end]);
             enter(s, w, end, e);
             let i = space(e);
             if BY_TAGS <= i {
-                return Walked::Next(end);
+                return Ok(Some(end));
             }
             let v = value_place(s, end, attribute(i));
             let from = v.from;
             let size = v.to - from;
             if LONGEST_NAME < size {
-                return Walked::Long;
+                return Err(LongName);
             }
             declare(s, w, i, from, size);
-            Walked::Next(end)
+            Ok(Some(end))
         }
     }
 }
 
-// Goes over all tags from `from` on; false if a name is too long.
-fn declare_tags(s: &[u8], w: &mut [u64], from: usize) -> bool
+// Goes over all tags from `from` on.
+fn declare_tags(s: &[u8], w: &mut [u64], from: usize) -> Result<(), LongName>
     requires { (length w.old ≡ scratch_words) × (AllSound s.now w.old × (from ≤ length s.now)) }
     ensures { Fills s.now from w.old w.new result }
 {
     let mut at = from;
-    while at < s.len() {
-        let r = declare_tag(s, w, at);
-        match r {
-            Walked::Done => {
-                return true;
-            }
-            Walked::Long => {
-                return false;
-            }
-            Walked::Next(n) => {
-                at = n;
-            }
-        }
+    while let Some(next) = declare_tag(s, w, at)? {
+        at = next;
     }
-    true
+    Ok(())
 }
 
 // Empties all spaces and the list of tags, whatever the words were.
@@ -103,25 +94,19 @@ fn empty_all(w: &mut [u64])
     requires { length w.old ≡ scratch_words }
     ensures { AllEmptied w.old w.new }
 {
-    let mut i = 0;
-    while i < SPACES {
+    for i in 0..SPACES {
         opl_spaces::empty(w, i);
-        i += 1;
     }
     w[LIST] = 0;
 }
 
-// Declares the names of two accepted texts, and lists the tags of the first, which begin at `from`; false if a name is too long.
-pub fn name_all(s: &[u8], t: &[u8], w: &mut [u64], from: usize) -> bool
+// Declares the names of two accepted texts, and lists the tags of the first, which begin at `from`.
+pub fn name_all(s: &[u8], t: &[u8], w: &mut [u64], from: usize) -> Result<(), LongName>
     requires { (length w.old ≡ scratch_words) × ((from ≤ length s.now) × ((tags s.now ≡ walk_at s.now from) × (accepted (lines (length t.now) t.now) ≡ true))) }
     ensures { Names s.now t.now from w.new result }
 {
     empty_all(w);
-    if !declare_tags(s, w, from) {
-        return false;
-    }
-    if !declare_lines(t, w, TASKS) {
-        return false;
-    }
+    declare_tags(s, w, from)?;
+    declare_lines(t, w, TASKS)?;
     declare_lines(t, w, TEMPLATES)
 }

@@ -4,8 +4,8 @@ use Prim.Native.Nat.{◌-◌}
 use lib.ListN.{length}
 use Rattle.opl_naming.proofs.declare_tags.Given as goal
 
-abbrev pub invariant-loop-at : goal.invariant-loop-at
-invariant-loop-at l = NamesLeft l.s l.from l.at l.initial.w l.w
+abbrev pub invariant-loop-next : goal.invariant-loop-next
+invariant-loop-next l = NamesLeft l.s l.from l.at l.initial.w l.w
 
-abbrev pub decreases-loop-at : goal.decreases-loop-at
-decreases-loop-at l = length l.s - l.at
+abbrev pub decreases-loop-next : goal.decreases-loop-next
+decreases-loop-next l = length l.s - l.at
