@@ -4,8 +4,8 @@ use mathlib.Core.Path.{◌≡◌, refl, ap, ◌∙◌}
 use mathlib.Core.Bool.{Bool, true, false, ◌||◌}
 use mathlib.Core.List.{List, []}
 use native.Mathlib.Omega.{arith}
+use Rattle.std.specs.Prelude.{Option, Some, None}
 use lib.Dec.{eqb}
-use lib.ListN.{length, drop, drop_of_length-le}
 use borrow.Author.Tests.{eq-eqb, ne_eqb}
 use Rattle.paper_lower.specs.Sets.{plus}
 use Rattle.paper_lower.specs.Lists.{some, keep, each}
@@ -15,21 +15,18 @@ use Rattle.paper_opl.specs.Naming.{Names}
 use Rattle.paper_opl.specs.Filling.{set_from}
 use Rattle.paper_opl.specs.Walk.{inner_names, leading}
 use Rattle.paper_opl.proofs.SetsFrom.{set-from}
-use Rattle.opl_names.specs.declared.Found.{Found}
-use Rattle.opl_names.specs.declared.Found.TheVariants.{At, Nowhere}
 use Rattle.opl_table.specs.Numbers.{name_of}
-use Rattle.opl_tags.specs.Tags.{given_at, next_tags, walk_at}
+use Rattle.opl_tags.specs.Tags.{given_at, walk_at}
 use Rattle.opl_turns.specs.Meaning.{inner_of}
 use Rattle.opl_turns.specs.Listing.{Opened, Meets}
 use Rattle.opl_turns.specs.declared.Met.{Met}
-use Rattle.opl_turns.specs.declared.Met.TheVariants.{Begun, Ended, Over}
+use Rattle.opl_turns.specs.declared.Met.TheVariants.{Begun, Ended}
 use Rattle.opl_turns.proofs.MeaningLaws.{stands_by, inner-by}
 use Rattle.opl_said.specs.Said.{NumberIs}
 use Rattle.opl_said.specs.Forms.{number_by, givens_of, inside_at, Inner, Onward, HereIs, MemberIs, NextIs, first_by, set_by}
+use Rattle.opl_said.specs.declared.StartTag.{StartTag}
 use Rattle.opl_said.specs.declared.Member.{Member}
 use Rattle.opl_said.specs.declared.Member.TheVariants.{Other, Here, Last}
-use Rattle.opl_said.specs.declared.Next.{Next}
-use Rattle.opl_said.specs.declared.Next.TheVariants.{There, Nothing}
 
 -- ---- The code's test for an element that occurs inside one which yields a record.
 six : (a b c d e f : Bool) → (((((a || b) || c) || d) || e) || f) ≡ (a || (b || (c || (d || (e || (f || false))))))
@@ -46,18 +43,18 @@ unfolding some inner_of
 inner-is id = six (eqb id 15) (eqb id 16) (eqb id 24) (eqb id 25) (eqb id 36) (eqb id 40)
 
 -- ---- One tag.
-module _ (s : Text) (l : List ℕ) (e at entry : ℕ) (r : Met) (meets : Meets s l at entry r) where
-  pub member-over : r ≡ Over → MemberIs s l e at Last
+module _ (s : Text) (l : List ℕ) (e at entry : ℕ) (r : Option Met) (meets : Meets s l at entry r) where
+  pub member-over : r ≡ None → MemberIs s l e at Last
   unfolding keep each leading
   member-over q = let z : walk_at s at ≡ [] = rw q at meets in rw z
 
-  pub member-ended : (n : ℕ) → r ≡ Ended n → MemberIs s l e at (Other n entry)
+  pub member-ended : (n : ℕ) → r ≡ Some (Ended n) → MemberIs s l e at (Other n entry)
   member-ended n q =
-      let m : Meets s l at entry (Ended n) = rw q at meets in
+      let m : Meets s l at entry (Some (Ended n)) = rw q at meets in
       record { past = m.0.past; inside = m.0.inside; rest = ap (λ ts. givens_of e (leading ts)) m.0.walk; leads = m.1 }
 
-  module _ (id end behind : ℕ) (q : r ≡ Begun id end behind) where
-    met : Meets s l at entry (Begun id end behind)
+  module _ (id end behind : ℕ) (q : r ≡ Some (Begun id end behind)) where
+    met : Meets s l at entry (Some (Begun id end behind))
     met = rw q at meets
 
     abbrev o : Opened s at end id
@@ -69,7 +66,7 @@ module _ (s : Text) (l : List ℕ) (e at entry : ℕ) (r : Met) (meets : Meets s
     looked-for : Inner e → same o.name (name_of e) ≡ eqb id e
     looked-for i = stands_by o.name e i ∙ ap (λ (k : ℕ). eqb k e) o.element
 
-    pub member-here : Inner e → id ≡ e → MemberIs s l e at (Here end behind)
+    pub member-here : Inner e → id ≡ e → MemberIs s l e at (Here (record { end = end; entry = behind }))
     unfolding keep each leading
     member-here i h =
         let k : same o.name (name_of e) ≡ true = looked-for i ∙ eq-eqb id e h in
@@ -87,18 +84,14 @@ module _ (s : Text) (l : List ℕ) (e at entry : ℕ) (r : Met) (meets : Meets s
     unfolding keep each leading
     member-past d = let n : some (same o.name) inner_names ≡ false = stands ∙ d in rw (o.walk, n)
 
-pub no-members : (s : Text) (e at : ℕ) → length s ≤ at → inside_at s e at ≡ []
-unfolding keep each leading next_tags
-no-members s e at h = let q : drop at s ≡ [] = drop_of_length-le s h in rw q
-
 -- ---- The next element of this name.
 module _ (s : Text) (l : List ℕ) (e from at : ℕ) (left : inside_at s e from ≡ inside_at s e at) (order : from ≤ at) (r : Member) (is : MemberIs s l e at r) where
-  pub next_last : r ≡ Last → NextIs s l e from Nothing
+  pub next_last : r ≡ Last → NextIs s l e from None
   next_last q = let z : MemberIs s l e at Last = rw q at is in left ∙ z
 
-  pub next_here : (end entry : ℕ) → r ≡ Here end entry → NextIs s l e from (There end entry)
-  next_here end entry q =
-      let z : HereIs s l e at end entry = rw q at is in
+  pub next_here : (tag : StartTag) → r ≡ Here tag → NextIs s l e from (Some tag)
+  next_here tag q =
+      let z : HereIs s l e at tag.end tag.entry = rw q at is in
       record { past = omega (arith, z.past); inside = z.inside; first = left ∙ z.first; leads = z.leads }
 
   module _ (n entry : ℕ) (q : r ≡ Other n entry) where
@@ -110,17 +103,14 @@ module _ (s : Text) (l : List ℕ) (e from at : ℕ) (left : inside_at s e from 
 
 -- ---- The number of the first such element, and the set of the numbers of all.
 module _ (ns : Names) (s : Text) (l : List ℕ) (e id i from : ℕ) where
-  pub first-nothing : (n : ℕ) (r : Next) → NextIs s l e from r → r ≡ Nothing → NumberIs n (first_by ns id i (inside_at s e from)) Nowhere
+  pub first-nothing : (n : ℕ) → NextIs s l e from None → NumberIs n (first_by ns id i (inside_at s e from)) None
   unfolding each
-  first-nothing n r is q = let z : NextIs s l e from Nothing = rw q at is in record { number_is = rw z; small = tt }
+  first-nothing n z = record { number_is = rw z; small = tt }
 
-  module _ (r : Next) (is : NextIs s l e from r) (end entry : ℕ) (q : r ≡ There end entry) where
-    pub there-is : HereIs s l e from end entry
-    there-is = rw q at is
-
-    pub first-there : (n : ℕ) (f : Found) → NumberIs n (number_by ns id i (given_at s end)) f → NumberIs n (first_by ns id i (inside_at s e from)) f
-    unfolding each
-    first-there n f k = rw there-is.first k
+  pub first-there : (tag : StartTag) → NextIs s l e from (Some tag) → (n : ℕ) (f : Option ℕ) → NumberIs n (number_by ns id i (given_at s tag.end)) f →
+      NumberIs n (first_by ns id i (inside_at s e from)) f
+  unfolding each
+  first-there tag is n f k = rw is.first k
 
   pub set_first : set_from 0 (each (number_by ns id i) (inside_at s e from)) ≡ set_by ns id i (inside_at s e from)
   set_first = set-from (each (number_by ns id i) (inside_at s e from))
@@ -130,11 +120,12 @@ module _ (ns : Names) (s : Text) (l : List ℕ) (e id i from : ℕ) where
     unfolding each set_from
     set-end q = rw q at left
 
-    module _ (n end entry : ℕ) (is : HereIs s l e at end entry) (f : Found) (number : NumberIs n (number_by ns id i (given_at s end)) f) where
-      pub set-unnamed : f ≡ Nowhere → none ≡ set_by ns id i (inside_at s e from)
+    module _ (n end entry : ℕ) (is : HereIs s l e at end entry) where
+      pub set-unnamed : NumberIs n (number_by ns id i (given_at s end)) None → none ≡ set_by ns id i (inside_at s e from)
       unfolding each set_from
-      set-unnamed q = let z : none ≡ number_by ns id i (given_at s end) = rw q at number.number_is in rw (is.first, ← z) at left
+      set-unnamed number = rw (is.first, ← number.number_is) at left
 
-      pub set_on : (k : ℕ) → f ≡ At k → set_from (plus m k) (each (number_by ns id i) (inside_at s e end)) ≡ set_by ns id i (inside_at s e from)
+      pub set_on : (k : ℕ) → NumberIs n (number_by ns id i (given_at s end)) (Some k) →
+          set_from (plus m k) (each (number_by ns id i) (inside_at s e end)) ≡ set_by ns id i (inside_at s e from)
       unfolding each set_from
-      set_on k q = let z : just k ≡ number_by ns id i (given_at s end) = rw q at number.number_is in rw (is.first, ← z) at left
+      set_on k number = rw (is.first, ← number.number_is) at left

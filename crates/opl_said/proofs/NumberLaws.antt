@@ -4,6 +4,7 @@ use mathlib.Core.Path.{◌≡◌, sym, ap, ◌∙◌}
 use mathlib.Core.Bool.{Bool, true, false, cond}
 use mathlib.Core.List.{List, []}
 use native.Mathlib.Omega.{arith}
+use Rattle.std.specs.Prelude.{Option, Some, None}
 use lib.Dec.{leb}
 use lib.ListN.{length, get_or, drop, drop_of_length-le}
 use Rattle.paper_lower.specs.Lists.{Maybe, many}
@@ -16,8 +17,6 @@ use Rattle.paper_opl.proofs.Inversion.{none≢just}
 use Rattle.paper_opl.proofs.Cardinalities.{decimal-grows}
 use Rattle.opl_text.proofs.Laws.{drop_here}
 use Rattle.opl_names.specs.Table.{kept, name_at, names_in, Sound, found_of}
-use Rattle.opl_names.specs.declared.Found.{Found}
-use Rattle.opl_names.specs.declared.Found.TheVariants.{At, Nowhere}
 use Rattle.opl_names.proofs.NameLaws.{place-small}
 use Rattle.opl_spaces.specs.Spaces.{limit_of, table_of, numbered}
 use Rattle.opl_said.specs.Said.{Below, NumberIs}
@@ -27,14 +26,14 @@ kept-many : (s : Text) (l : List ℕ) → many (names_in s l) ≡ kept l
 unfolding names_in
 kept-many s l = many-rows (name_at s l) 0 (kept l)
 
-pub number_in : (s : Text) (i : ℕ) (l : List ℕ) (w : Text) (x : Maybe ℕ) (r : Found) → Sound s (limit_of i) (table_of i l) → numbered s i l w ≡ x →
+pub number_in : (s : Text) (i : ℕ) (l : List ℕ) (w : Text) (x : Maybe ℕ) (r : Option ℕ) → Sound s (limit_of i) (table_of i l) → numbered s i l w ≡ x →
     found_of r ≡ numbered s i l w → NumberIs (limit_of i) x r
 number_in s i l w x r sound e f = record { number_is = f ∙ e; small = go r (leb (length w) 64) f }
   where
-    go : (r : Found) (b : Bool) → found_of r ≡ cond b (place_of 0 w (names_in s (table_of i l))) none → Below (limit_of i) r
-    go (At k) true q = let h = place-small w 0 k (names_in s (table_of i l)) (sym q) in omega (arith, h, kept-many s (table_of i l), sound.within)
-    go (At k) false q = absurd (none≢just (sym q))
-    go Nowhere b q = tt
+    go : (r : Option ℕ) (b : Bool) → found_of r ≡ cond b (place_of 0 w (names_in s (table_of i l))) none → Below (limit_of i) r
+    go (Some k) true q = let h = place-small w 0 k (names_in s (table_of i l)) (sym q) in omega (arith, h, kept-many s (table_of i l), sound.within)
+    go (Some k) false q = absurd (none≢just (sym q))
+    go None b q = tt
 
 -- ---- Digits.
 module _ (v : Text) (n i : ℕ) (left : decimal n (drop i v) ≡ decimal 0 v) where

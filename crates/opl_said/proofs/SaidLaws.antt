@@ -5,6 +5,7 @@ use mathlib.Core.Path.{◌≡◌, refl, sym, ap, ◌∙◌}
 use mathlib.Core.Bool.{true, false, true≢false}
 use mathlib.Core.List.{List, [], ◌∷◌, ◌++◌}
 use lib.Dec.{eqb}
+use Rattle.std.specs.Prelude.{Option, None}
 use borrow.Author.Tests.{eqb-true, ne_eqb}
 use Rattle.paper_lower.specs.Lists.{Maybe, some, every, keep, each, lists_open}
 use Rattle.paper_lower.specs.Lists.Maybe.{none, just}
@@ -23,13 +24,12 @@ use Rattle.opl_turns.specs.Turning.{saying_at}
 use Rattle.opl_said.specs.Said.{space_at, cardinality_at, a_record_of, SaysIt}
 use Rattle.opl_said.specs.Forms.{number_by, inside_at, head_of, first_by, set_by, one_said, two_said, three_said, set_said, partitioning_of, wall_of, FieldsAre}
 use Rattle.opl_said.specs.declared.Fields.{Fields}
-use Rattle.opl_said.specs.declared.Fields.TheVariants.{Unnamed}
 
 -- ---- Records by their number of names.
-says-by : (k : ℕ) (want r : Fields) (said : Maybe Record) → FieldsAre want r → a_record_of k want ≡ said → SaysIt k said r
+says-by : (k : ℕ) (want r : Option Fields) (said : Maybe Record) → FieldsAre want r → a_record_of k want ≡ said → SaysIt k said r
 says-by k want r said h e = record { says = ap (a_record_of k) h.fields-are ∙ e; fits = h.fits }
 
-module _ (k : ℕ) (r : Fields) (said : Maybe Record) where
+module _ (k : ℕ) (r : Option Fields) (said : Maybe Record) where
   one-says : (n : ℕ) (x : Maybe ℕ) → said ≡ if-found x none (λ a. fields k n a 0 0 0) → FieldsAre (one_said n x) r → SaysIt k said r
   one-says n x e h = says-by k (one_said n x) r said h (go x ∙ sym e)
     where
@@ -78,7 +78,7 @@ first_of f [] = refl
 first_of f (t ∷ ts) = refl
 
 -- ---- Kind by kind.
-module _ (ns : Names) (s : Text) (number end : ℕ) (r : Fields) where
+module _ (ns : Names) (s : Text) (number end : ℕ) (r : Option Fields) where
   abbrev x : Found
   x = record { number = number; given = given_at s end; inside = leading (walk_at s end) }
 
@@ -197,7 +197,7 @@ no_row (r ∷ rs) k h b =
     (λ e. absurd (true≢false (sym p.0 ∙ ap (λ (j : ℕ). some (eqb j) kinds_back) (eqb-true r.kind k e) ∙ b)))
     (λ e. rw e (no_row rs k p.1 b))
 
-pub says_nothing : (ns : Names) (s : Text) (k number end : ℕ) → Beside kinds_back k → SaysIt k (record_said ns (saying_at s k number end)) Unnamed
+pub says_nothing : (ns : Names) (s : Text) (k number end : ℕ) → Beside kinds_back k → SaysIt k (record_said ns (saying_at s k number end)) None
 unfolding record_said
 says_nothing ns s k number end b =
     let e : row_of (rows_first ++ last_rows) k ≡ none = no_row (rows_first ++ last_rows) k rows-there (beside-is kinds_back k b) in

@@ -1,5 +1,5 @@
 -- The parts of a tag's record: from its attributes, and from the elements inside it; and the fields that these parts make.
-use Rattle.std.specs.Prelude.{ℕ, ◌/◌, ◌≤◌, ◌<◌, ◌≡◌, true, cond, List, [], ◌∷◌, ltb, length}
+use Rattle.std.specs.Prelude.{ℕ, ◌/◌, ◌≤◌, ◌<◌, ◌≡◌, true, cond, List, [], ◌∷◌, ltb, length, Option, Some, None}
 use Rattle.paper_lower.specs.Lists.{Maybe, keep, each}
 use Rattle.paper_lower.specs.Lists.Maybe.{none, just}
 use Rattle.paper_opl.specs.Reading.{Text, same}
@@ -12,12 +12,8 @@ use Rattle.opl_turns.specs.Meaning.{inner_of}
 use Rattle.opl_turns.specs.Listing.{Leads}
 use Rattle.opl_said.specs.declared.Member.{Member}
 use Rattle.opl_said.specs.declared.Member.TheVariants.{Other, Here, Last}
-use Rattle.opl_said.specs.declared.Next.{Next}
-use Rattle.opl_said.specs.declared.Next.TheVariants.{There, Nothing}
-use Rattle.opl_said.specs.declared.Group.{Group}
-use Rattle.opl_said.specs.declared.Group.TheVariants.{Bits, Nameless}
+use Rattle.opl_said.specs.declared.StartTag.{StartTag}
 use Rattle.opl_said.specs.declared.Fields.{Fields}
-use Rattle.opl_said.specs.declared.Fields.TheVariants.{Numbers, Unnamed}
 use Rattle.opl_said.specs.Said.{space_at, all_names, Fit}
 
 -- ---- From its attributes.
@@ -61,13 +57,13 @@ pub record HereIs (s : Text) (l : List ℕ) (e at end entry : ℕ) : Type 0 wher
 -- The contract of `member_at`.
 abbrev pub MemberIs : Text → List ℕ → ℕ → ℕ → Member → Type 0
 MemberIs s l e at (Other next entry) = Onward s l e at next entry
-MemberIs s l e at (Here end entry) = HereIs s l e at end entry
+MemberIs s l e at (Here tag) = HereIs s l e at tag.end tag.entry
 MemberIs s l e at Last = inside_at s e at ≡ []
 
 -- The contract of `next_member`.
-abbrev pub NextIs : Text → List ℕ → ℕ → ℕ → Next → Type 0
-NextIs s l e at (There end entry) = HereIs s l e at end entry
-NextIs s l e at Nothing = inside_at s e at ≡ []
+abbrev pub NextIs : Text → List ℕ → ℕ → ℕ → Option StartTag → Type 0
+NextIs s l e at (Some tag) = HereIs s l e at tag.end tag.entry
+NextIs s l e at None = inside_at s e at ≡ []
 
 -- The first number of a list; absent if there is none.
 abbrev pub head_of : List (Maybe ℕ) → Maybe ℕ
@@ -90,36 +86,35 @@ first_at s t end e id i = first_by (all_names s t) id i (inside_at s e end)
 abbrev pub set_at : Text → Text → ℕ → ℕ → ℕ → ℕ → Maybe ℕ
 set_at s t end e id i = set_by (all_names s t) id i (inside_at s e end)
 
--- The set in a `Group`.
-abbrev pub bits_of : Group → Maybe ℕ
-bits_of (Bits m) = just m
-bits_of Nameless = none
-
 -- ---- The fields of a record.
 
+-- A record with these fields.
+abbrev pub numbers : ℕ → ℕ → ℕ → ℕ → ℕ → Option Fields
+numbers n a b c m = Some (record { n = n; a = a; b = b; c = c; m = m })
+
 -- The fields of a record with one name and n.
-abbrev pub one_said : ℕ → Maybe ℕ → Fields
-one_said n none = Unnamed
-one_said n (just a) = Numbers n a 0 0 0
+abbrev pub one_said : ℕ → Maybe ℕ → Option Fields
+one_said n none = None
+one_said n (just a) = numbers n a 0 0 0
 
 -- The fields of a record with two names.
-abbrev pub two_said : Maybe ℕ → Maybe ℕ → Fields
-two_said none b = Unnamed
-two_said (just a) none = Unnamed
-two_said (just a) (just b) = Numbers 0 a b 0 0
+abbrev pub two_said : Maybe ℕ → Maybe ℕ → Option Fields
+two_said none b = None
+two_said (just a) none = None
+two_said (just a) (just b) = numbers 0 a b 0 0
 
 -- The fields of a record with three numbers.
-abbrev pub three_said : Maybe ℕ → Maybe ℕ → Maybe ℕ → Fields
-three_said none b c = Unnamed
-three_said (just a) none c = Unnamed
-three_said (just a) (just b) none = Unnamed
-three_said (just a) (just b) (just c) = Numbers 0 a b c 0
+abbrev pub three_said : Maybe ℕ → Maybe ℕ → Maybe ℕ → Option Fields
+three_said none b c = None
+three_said (just a) none c = None
+three_said (just a) (just b) none = None
+three_said (just a) (just b) (just c) = numbers 0 a b c 0
 
 -- The fields of a record with n, a and a set.
-abbrev pub set_said : ℕ → Maybe ℕ → Maybe ℕ → Fields
-set_said n none m = Unnamed
-set_said n (just a) none = Unnamed
-set_said n (just a) (just m) = Numbers n a 0 0 m
+abbrev pub set_said : ℕ → Maybe ℕ → Maybe ℕ → Option Fields
+set_said n none m = None
+set_said n (just a) none = None
+set_said n (just a) (just m) = numbers n a 0 0 m
 
 -- The number of a partitioning, if it is below 16.
 abbrev pub partitioning_of : ℕ → Maybe ℕ
@@ -130,6 +125,6 @@ abbrev pub wall_of : ℕ → Maybe ℕ
 wall_of n = cond (ltb n 256) (just (n / 16)) none
 
 -- The code's fields are these, and fit into a record.
-pub record FieldsAre (want r : Fields) : Type 0 where
+pub record FieldsAre (want r : Option Fields) : Type 0 where
   pub fields-are : r ≡ want
   pub fits : Fit r

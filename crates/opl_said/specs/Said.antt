@@ -1,5 +1,5 @@
 -- The record that one tag of an accepted text yields, when the tables of the scratch buffer hold the names.
-use Rattle.std.specs.Prelude.{ℕ, zero, suc, ◌<◌, ◌≡◌, List, length}
+use Rattle.std.specs.Prelude.{ℕ, zero, suc, ◌<◌, ◌≡◌, List, length, Option, Some, None}
 use Rattle.paper_lower.specs.Lists.{Maybe}
 use Rattle.paper_lower.specs.Lists.Maybe.{none, just}
 use Rattle.paper_lower.specs.Records.{Record}
@@ -8,13 +8,10 @@ use Rattle.paper_opl.specs.Tree.{decimal}
 use Rattle.paper_opl.specs.Naming.{Space, Names, value_of, number_in}
 use Rattle.paper_opl.specs.Walk.{tags, names_in}
 use Rattle.opl_names.specs.Table.{Sound, found_of}
-use Rattle.opl_names.specs.declared.Found.{Found}
-use Rattle.opl_names.specs.declared.Found.TheVariants.{At, Nowhere}
 use Rattle.opl_lines.specs.Lines.{lines_in}
 use Rattle.opl_tags.specs.Tags.{given_at}
 use Rattle.opl_spaces.specs.Spaces.{limit_of, scratch_words, table_of, numbered}
 use Rattle.opl_said.specs.declared.Fields.{Fields}
-use Rattle.opl_said.specs.declared.Fields.TheVariants.{Numbers, Unnamed}
 
 -- ---- The names.
 
@@ -45,12 +42,12 @@ abbrev pub Holds : Text → Text → List ℕ → Type 0
 Holds s t l = Held s t (all_names s t) l
 
 -- A number that was found is below the limit of its space.
-abbrev pub Below : ℕ → Found → Type 0
-Below n (At k) = k < n
-Below n Nowhere = Unit {0}
+abbrev pub Below : ℕ → Option ℕ → Type 0
+Below n (Some k) = k < n
+Below n None = Unit {0}
 
 -- The contract of a lookup of a name, in a space that holds n names.
-pub record NumberIs (n : ℕ) (number : Maybe ℕ) (r : Found) : Type 0 where
+pub record NumberIs (n : ℕ) (number : Maybe ℕ) (r : Option ℕ) : Type 0 where
   pub number_is : found_of r ≡ number
   pub small : Below n r
 
@@ -61,9 +58,9 @@ abbrev pub cardinality_at : Text → ℕ → ℕ
 cardinality_at s end = decimal 0 (value_of (text "cardinality") (given_at s end))
 
 -- The record with these fields; none if a name has no number.
-abbrev pub a_record_of : ℕ → Fields → Maybe Record
-a_record_of kind (Numbers n a b c m) = just (record { kind = kind; n = n; a = a; b = b; c = c; m = m })
-a_record_of kind Unnamed = none
+abbrev pub a_record_of : ℕ → Option Fields → Maybe Record
+a_record_of kind (Some f) = just (record { kind = kind; n = f.n; a = f.a; b = f.b; c = f.c; m = f.m })
+a_record_of kind None = none
 
 -- The numbers fit into a record.
 pub record Small (n a b c : ℕ) : Type 0 where
@@ -73,11 +70,11 @@ pub record Small (n a b c : ℕ) : Type 0 where
   pub c-fits : c < 65536
 
 -- The same for the code's fields.
-abbrev pub Fit : Fields → Type 0
-Fit (Numbers n a b c m) = Small n a b c
-Fit Unnamed = Unit {0}
+abbrev pub Fit : Option Fields → Type 0
+Fit (Some f) = Small f.n f.a f.b f.c
+Fit None = Unit {0}
 
 -- The contract of `said`: the fields are those of the record, or both are absent.
-pub record SaysIt (kind : ℕ) (said : Maybe Record) (r : Fields) : Type 0 where
+pub record SaysIt (kind : ℕ) (said : Maybe Record) (r : Option Fields) : Type 0 where
   pub says : a_record_of kind r ≡ said
   pub fits : Fit r

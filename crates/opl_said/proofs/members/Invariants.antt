@@ -10,10 +10,13 @@ use Rattle.opl_spaces.specs.Spaces.{list_of}
 use Rattle.opl_turns.specs.Listing.{Leads}
 use Rattle.opl_said.proofs.members.Given as goal
 
-abbrev pub invariant-loop-at : goal.invariant-loop-at
-invariant-loop-at l =
-    ((l.at ≤ length l.s) × (set_from l.m (each (number_by (all_names l.s l.t) l.id l.i) (inside_at l.s l.e l.at)) ≡ set_by (all_names l.s l.t) l.id l.i (inside_at l.s l.e l.from))) ×
-    Leads l.s (list_of l.w) l.k l.at
+abbrev pub invariant-loop-next : goal.invariant-loop-next
+invariant-loop-next l = record {
+  inside : l.last.end ≤ length l.texts.policy.now;
+  leads : Leads l.texts.policy.now (list_of l.texts.scratch.now) l.last.entry l.last.end;
+  members : set_from l.m (each (number_by (all_names l.texts.policy.now l.texts.lines.now) l.id l.i) (inside_at l.texts.policy.now l.e l.last.end))
+      ≡ set_by (all_names l.texts.policy.now l.texts.lines.now) l.id l.i (inside_at l.texts.policy.now l.e l.fn.tag.end);
+}
 
-abbrev pub decreases-loop-at : goal.decreases-loop-at
-decreases-loop-at l = length l.s - l.at
+abbrev pub decreases-loop-next : goal.decreases-loop-next
+decreases-loop-next l = length l.texts.policy.now - l.last.end

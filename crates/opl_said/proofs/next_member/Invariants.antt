@@ -7,8 +7,13 @@ use Rattle.opl_turns.specs.Listing.{Leads}
 use Rattle.opl_said.specs.Forms.{inside_at}
 use Rattle.opl_said.proofs.next_member.Given as goal
 
-abbrev pub invariant-loop-at : goal.invariant-loop-at
-invariant-loop-at l = (l.at ≤ length l.s) × ((l.from ≤ l.at) × ((inside_at l.s l.e l.from ≡ inside_at l.s l.e l.at) × Leads l.s (list_of l.w) l.k l.at))
+abbrev pub invariant-loop-found : goal.invariant-loop-found
+invariant-loop-found l = record {
+  inside : l.at ≤ length l.texts.policy.now;
+  order : l.fn.tag.end ≤ l.at;
+  rest : inside_at l.texts.policy.now l.e l.fn.tag.end ≡ inside_at l.texts.policy.now l.e l.at;
+  leads : Leads l.texts.policy.now (list_of l.texts.scratch.now) l.k l.at;
+}
 
-abbrev pub decreases-loop-at : goal.decreases-loop-at
-decreases-loop-at l = length l.s - l.at
+abbrev pub decreases-loop-found : goal.decreases-loop-found
+decreases-loop-found l = length l.texts.policy.now - l.at

@@ -13,7 +13,7 @@ pub returns-then-i-lt-BY_TAGS : goal.returns-then-i-lt-BY_TAGS
 returns-then-i-lt-BY_TAGS c =
     let args = c.args in
     let pre = c.requires in
-    number_in args.s.now args.i args.w.now args.name.now _ c.number.result (pre.0.tags-sound args.i c.if-i-lt-BY_TAGS.true)
+    number_in args.texts.policy.now args.i args.texts.scratch.now args.name.now _ c.number.result (pre.0.tags-sound args.i c.if-i-lt-BY_TAGS.true)
     (pre.0.tag-numbers args.i c.if-i-lt-BY_TAGS.true args.name.now) c.number.ensures
 
 pub number-requires-2 : goal.number-requires-2
@@ -26,6 +26,6 @@ pub returns : goal.returns
 returns c =
     let args = c.args in
     let pre = c.requires in
-    number_in args.t.now args.i args.w.now args.name.now _ c.number-2.result
+    number_in args.texts.lines.now args.i args.texts.scratch.now args.name.now _ c.number-2.result
     (pre.0.lines-sound args.i (omega (arith, c.if-i-lt-BY_TAGS.false)) pre.1)
     (pre.0.line-numbers args.i (omega (arith, c.if-i-lt-BY_TAGS.false)) pre.1 args.name.now) c.number-2.ensures

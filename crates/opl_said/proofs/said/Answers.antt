@@ -4,196 +4,144 @@ use Rattle.opl_said.specs.Said.{all_names}
 use Rattle.opl_said.proofs.FormLaws.{role-inner, task-inner, few-roles, few-tasks}
 use Rattle.opl_said.proofs.SaidLaws.{says-1, says-2, says-3, says-4, says-5, says-7, says-8, says-9, says-10, says-11, says-12, says-13, says-14, says-15, says-16, says-17, says-18, says_nothing}
 use borrow.Author.Rules.{rules}
+use borrow.Author.Tests.{eqb-true, eqb-false}
+use lib.Dec.{eqb}
+use mathlib.Core.Path.{◌≡◌}
+use Rattle.paper_opl.proofs.Inversion.{on_test}
 use Rattle.opl_said.proofs.said.Goals as goal
 
-pub one-requires : goal.one-requires
-one-requires c =
+pub of_set-requires : goal.of_set-requires
+of_set-requires c =
     let pre = c.requires in
-    (pre.0, (pre.1.0.0, omega arith))
+    (pre.0, ((omega (arith, c.cardinality-n.ensures, pre.1.1), omega arith), (pre.1.0, (task-inner, (omega arith, few-tasks)))))
 
-pub one-requires-in-2 : goal.one-requires-in-2
-one-requires-in-2 c =
+pub of_set-requires-in-9 : goal.of_set-requires-in-9
+of_set-requires-in-9 c =
     let pre = c.requires in
-    (pre.0, (pre.1.0.0, omega arith))
-
-pub permission-requires : goal.permission-requires
-permission-requires c =
-    let pre = c.requires in
-    (pre.0, pre.1.0)
-
-pub two-requires : goal.two-requires
-two-requires c =
-    let pre = c.requires in
-    (pre.0, (pre.1.0.0, (omega arith, omega arith)))
-
-pub two-requires-in-5 : goal.two-requires-in-5
-two-requires-in-5 c =
-    let pre = c.requires in
-    (pre.0, (pre.1.0.0, (omega arith, omega arith)))
-
-pub two-requires-in-7 : goal.two-requires-in-7
-two-requires-in-7 c =
-    let pre = c.requires in
-    (pre.0, (pre.1.0.0, (omega arith, omega arith)))
-
-pub two-requires-in-8 : goal.two-requires-in-8
-two-requires-in-8 c =
-    let pre = c.requires in
-    (pre.0, (pre.1.0.0, (omega arith, omega arith)))
-
-pub sized-requires : goal.sized-requires
-sized-requires c =
-    let pre = c.requires in
-    (pre.0, (pre.1.1, (pre.1.0, (role-inner, (omega arith, few-roles)))))
-
-pub sized-requires-in-10 : goal.sized-requires-in-10
-sized-requires-in-10 c =
-    let pre = c.requires in
-    (pre.0, (pre.1.1, (pre.1.0, (role-inner, (omega arith, few-roles)))))
-
-pub sized-requires-in-11 : goal.sized-requires-in-11
-sized-requires-in-11 c =
-    let pre = c.requires in
-    (pre.0, (pre.1.1, (pre.1.0, (task-inner, (omega arith, few-tasks)))))
-
-pub partition-requires : goal.partition-requires
-partition-requires c =
-    let pre = c.requires in
-    (pre.0, pre.1.0)
-
-pub one-requires-in-13 : goal.one-requires-in-13
-one-requires-in-13 c =
-    let pre = c.requires in
-    (pre.0, (pre.1.0.0, omega arith))
-
-pub counted-requires : goal.counted-requires
-counted-requires c =
-    let pre = c.requires in
-    (pre.0, (pre.1.0.0, pre.1.1))
-
-pub two-requires-in-15 : goal.two-requires-in-15
-two-requires-in-15 c =
-    let pre = c.requires in
-    (pre.0, (pre.1.0.0, (omega arith, omega arith)))
-
-pub two-requires-in-16 : goal.two-requires-in-16
-two-requires-in-16 c =
-    let pre = c.requires in
-    (pre.0, (pre.1.0.0, (omega arith, omega arith)))
-
-pub two-requires-in-17 : goal.two-requires-in-17
-two-requires-in-17 c =
-    let pre = c.requires in
-    (pre.0, (pre.1.0.0, (omega arith, omega arith)))
-
-pub blocked-requires : goal.blocked-requires
-blocked-requires c =
-    let pre = c.requires in
-    (pre.0, pre.1.0.0)
+    (pre.0, ((omega (arith, c.cardinality-n-in-9.ensures, pre.1.1), omega arith), (pre.1.0, (role-inner, (omega arith, few-roles)))))
 
 pub returns-in-1 : goal.returns-in-1
 returns-in-1 c =
     let args = c.args in
+    let x = args.texts in
     rw c.in-1.is
-    (says-1 (all_names args.s.now args.t.now) args.s.now args.number args.end c.one.result c.one.ensures)
+    (says-1 (all_names x.policy.now x.lines.now) x.policy.now args.number args.tag.end c.one.result c.one.ensures)
 
 pub returns-in-2 : goal.returns-in-2
 returns-in-2 c =
     let args = c.args in
+    let x = args.texts in
     rw c.in-2.is
-    (says-2 (all_names args.s.now args.t.now) args.s.now args.number args.end c.one-in-2.result c.one-in-2.ensures)
+    (says-2 (all_names x.policy.now x.lines.now) x.policy.now args.number args.tag.end c.one-in-2.result c.one-in-2.ensures)
 
 pub returns-in-3 : goal.returns-in-3
 returns-in-3 c =
     let args = c.args in
+    let x = args.texts in
     rw c.in-3.is
-    (says-3 (all_names args.s.now args.t.now) args.s.now args.number args.end c.permission.result c.permission.ensures)
+    (says-3 (all_names x.policy.now x.lines.now) x.policy.now args.number args.tag.end c.permission.result c.permission.ensures)
 
 pub returns-in-4 : goal.returns-in-4
 returns-in-4 c =
     let args = c.args in
+    let x = args.texts in
     rw c.in-4.is
-    (says-4 (all_names args.s.now args.t.now) args.s.now args.number args.end c.two.result c.two.ensures)
+    (says-4 (all_names x.policy.now x.lines.now) x.policy.now args.number args.tag.end c.two.result c.two.ensures)
 
 pub returns-in-5 : goal.returns-in-5
 returns-in-5 c =
     let args = c.args in
+    let x = args.texts in
     rw c.in-5.is
-    (says-5 (all_names args.s.now args.t.now) args.s.now args.number args.end c.two-in-5.result c.two-in-5.ensures)
+    (says-5 (all_names x.policy.now x.lines.now) x.policy.now args.number args.tag.end c.two-in-5.result c.two-in-5.ensures)
 
 pub returns-in-7 : goal.returns-in-7
 returns-in-7 c =
     let args = c.args in
+    let x = args.texts in
     rw c.in-7.is
-    (says-7 (all_names args.s.now args.t.now) args.s.now args.number args.end c.two-in-7.result c.two-in-7.ensures)
+    (says-7 (all_names x.policy.now x.lines.now) x.policy.now args.number args.tag.end c.two-in-7.result c.two-in-7.ensures)
 
 pub returns-in-8 : goal.returns-in-8
 returns-in-8 c =
     let args = c.args in
+    let x = args.texts in
     rw c.in-8.is
-    (says-8 (all_names args.s.now args.t.now) args.s.now args.number args.end c.two-in-8.result c.two-in-8.ensures)
-
-pub returns-in-9 : goal.returns-in-9
-returns-in-9 c =
-    let args = c.args in
-    rw c.in-9.is
-    (says-9 (all_names args.s.now args.t.now) args.s.now args.number args.end c.sized.result c.sized.ensures)
-
-pub returns-in-10 : goal.returns-in-10
-returns-in-10 c =
-    let args = c.args in
-    rw c.in-10.is
-    (says-10 (all_names args.s.now args.t.now) args.s.now args.number args.end c.sized-in-10.result c.sized-in-10.ensures)
-
-pub returns-in-11 : goal.returns-in-11
-returns-in-11 c =
-    let args = c.args in
-    rw c.in-11.is
-    (says-11 (all_names args.s.now args.t.now) args.s.now args.number args.end c.sized-in-11.result c.sized-in-11.ensures)
+    (says-8 (all_names x.policy.now x.lines.now) x.policy.now args.number args.tag.end c.two-in-8.result c.two-in-8.ensures)
 
 pub returns-in-12 : goal.returns-in-12
 returns-in-12 c =
     let args = c.args in
+    let x = args.texts in
     rw c.in-12.is
-    (says-12 (all_names args.s.now args.t.now) args.s.now args.number args.end c.partition.result c.partition.ensures)
+    (says-12 (all_names x.policy.now x.lines.now) x.policy.now args.number args.tag.end c.partition.result c.partition.ensures)
 
 pub returns-in-13 : goal.returns-in-13
 returns-in-13 c =
     let args = c.args in
+    let x = args.texts in
     rw c.in-13.is
-    (says-13 (all_names args.s.now args.t.now) args.s.now args.number args.end c.one-in-13.result c.one-in-13.ensures)
+    (says-13 (all_names x.policy.now x.lines.now) x.policy.now args.number args.tag.end c.one-in-13.result c.one-in-13.ensures)
 
 pub returns-in-14 : goal.returns-in-14
 returns-in-14 c =
     let args = c.args in
+    let x = args.texts in
     rw c.in-14.is
-    (says-14 (all_names args.s.now args.t.now) args.s.now args.number args.end c.counted.result c.counted.ensures)
+    (says-14 (all_names x.policy.now x.lines.now) x.policy.now args.number args.tag.end c.counted.result c.counted.ensures)
 
 pub returns-in-15 : goal.returns-in-15
 returns-in-15 c =
     let args = c.args in
+    let x = args.texts in
     rw c.in-15.is
-    (says-15 (all_names args.s.now args.t.now) args.s.now args.number args.end c.two-in-15.result c.two-in-15.ensures)
+    (says-15 (all_names x.policy.now x.lines.now) x.policy.now args.number args.tag.end c.two-in-15.result c.two-in-15.ensures)
 
 pub returns-in-16 : goal.returns-in-16
 returns-in-16 c =
     let args = c.args in
+    let x = args.texts in
     rw c.in-16.is
-    (says-16 (all_names args.s.now args.t.now) args.s.now args.number args.end c.two-in-16.result c.two-in-16.ensures)
+    (says-16 (all_names x.policy.now x.lines.now) x.policy.now args.number args.tag.end c.two-in-16.result c.two-in-16.ensures)
 
 pub returns-in-17 : goal.returns-in-17
 returns-in-17 c =
     let args = c.args in
+    let x = args.texts in
     rw c.in-17.is
-    (says-17 (all_names args.s.now args.t.now) args.s.now args.number args.end c.two-in-17.result c.two-in-17.ensures)
+    (says-17 (all_names x.policy.now x.lines.now) x.policy.now args.number args.tag.end c.two-in-17.result c.two-in-17.ensures)
 
 pub returns-in-18 : goal.returns-in-18
 returns-in-18 c =
     let args = c.args in
+    let x = args.texts in
     rw c.in-18.is
-    (says-18 (all_names args.s.now args.t.now) args.s.now args.number args.end c.blocked.result c.blocked.ensures)
+    (says-18 (all_names x.policy.now x.lines.now) x.policy.now args.number args.tag.end c.blocked.result c.blocked.ensures)
+
+pub returns-in-11 : goal.returns-in-11
+returns-in-11 c =
+    let args = c.args in
+    let x = args.texts in
+    rw c.in-11.is
+    (says-11 (all_names x.policy.now x.lines.now) x.policy.now args.number args.tag.end c.of_set.result (rw c.cardinality-n.ensures at c.of_set.ensures))
+
+pub returns-in-9 : goal.returns-in-9
+returns-in-9 c =
+    let args = c.args in
+    let x = args.texts in
+    let set = rw c.cardinality-n-in-9.ensures at c.of_set-in-9.ensures in
+    on_test (eqb args.kind 9)
+    (λ q. rw (eqb-true args.kind 9 q) (says-9 (all_names x.policy.now x.lines.now) x.policy.now args.number args.tag.end c.of_set-in-9.result set))
+    (λ q.
+    let z : args.kind ≡ 10 = omega (arith, eqb-false args.kind 9 q) in
+    rw z (says-10 (all_names x.policy.now x.lines.now) x.policy.now args.number args.tag.end c.of_set-in-9.result set))
 
 pub returns-in_default : goal.returns-in_default
 returns-in_default c =
-    let args = c.args in
-    says_nothing (all_names args.s.now args.t.now) args.s.now args.kind args.number args.end (search rules)
+    let x = c.args.texts in
+    says_nothing (all_names x.policy.now x.lines.now) x.policy.now c.args.kind c.args.number c.args.tag.end (search rules)
+
+pub returns-in_default-2 : goal.returns-in_default-2
+returns-in_default-2 c =
+    let x = c.args.texts in
+    says_nothing (all_names x.policy.now x.lines.now) x.policy.now c.args.kind c.args.number c.args.tag.end (search rules)
