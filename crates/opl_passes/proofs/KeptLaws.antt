@@ -4,6 +4,7 @@ use Prim.Native.Nat.{ℕ, zero, suc, ◌+◌, ◌*◌, ◌-◌, ◌%◌, ◌≤�
 use mathlib.Core.Path.{◌≡◌, refl, sym, ap, ◌∙◌}
 use mathlib.Core.List.{List, []}
 use native.Mathlib.Omega.{arith}
+use Rattle.std.specs.Prelude.{Option}
 use lib.Dec.{eqb, leb}
 use lib.ListN.{length, set, length-set}
 use lib.Seq.{get_or-set_same, get_or-set_other}
@@ -24,7 +25,7 @@ use Rattle.opl_spaces.specs.Spaces.{table_words, kept_room, scratch_words, list_
 use Rattle.opl_spaces.proofs.SpaceLaws.{table_kept, list-kept}
 use Rattle.opl_said.specs.Said.{Held, SaysIt, Small}
 use Rattle.opl_said.specs.declared.Fields.{Fields}
-use Rattle.opl_said.specs.declared.Fields.TheVariants.{Numbers}
+use Rattle.opl_said.specs.Forms.{numbers}
 use Rattle.opl_turns.specs.Turning.{context_of, tags_at, Led, Passes, Tells, saying_at}
 use Rattle.opl_turns.specs.declared.Cursor.{Cursor}
 use Rattle.opl_passes.specs.Kept.{low_at, high_at, kind_in, kept_with, next_to, written_to, KindsTo, KeptLeft, Keeps, AllKept, Fitting}
@@ -146,8 +147,8 @@ module _ (ns : Names) (s t : Text) (c : Cursor) (j : ℕ) (w : List ℕ) (held :
             };
       }
 
-  module _ (kind number end : ℕ) (n : Cursor) (tells : Tells s c kind number end n) (f : Fields) (says : SaysIt kind (record_said ns (saying_at s kind number end)) f)
-      (a₀ a b d m : ℕ) (e : f ≡ Numbers a₀ a b d m)
+  module _ (kind number end : ℕ) (n : Cursor) (tells : Tells s c kind number end n) (f : Option Fields) (says : SaysIt kind (record_said ns (saying_at s kind number end)) f)
+      (a₀ a b d m : ℕ) (e : f ≡ numbers a₀ a b d m)
     where
       small : Small a₀ a b d
       small = rw e at says.fits

@@ -4,6 +4,7 @@ use mathlib.Core.Path.{◌≡◌, refl, sym, ap, ◌∙◌}
 use mathlib.Core.Bool.{true, false, false≢true}
 use mathlib.Core.List.{List, [], ◌∷◌}
 use native.Mathlib.Omega.{arith}
+use Rattle.std.specs.Prelude.{Option, Some, None, Ok, Err}
 use lib.ListN.{length, drop, length-drop}
 use Rattle.paper_lower.specs.Lists.{Maybe, holds, every, many}
 use Rattle.paper_lower.specs.Lists.Maybe.{none, just}
@@ -11,11 +12,9 @@ use Rattle.paper_lower.specs.Records.{Bytes, Record, put_at}
 use Rattle.paper_opl.specs.Reading.{Text}
 use Rattle.paper_opl.specs.Naming.{Line, Names, lines, number_in, task_record}
 use Rattle.paper_opl.specs.Filling.{valued, fill_lines}
-use Rattle.opl_names.specs.declared.Found.{Found}
-use Rattle.opl_names.specs.declared.Found.TheVariants.{At, Nowhere}
 use Rattle.opl_lines.specs.Lines.{lines_in, Apart, ReadsLine}
-use Rattle.opl_lines.specs.declared.Ends.{Ends}
-use Rattle.opl_lines.specs.declared.Ends.TheVariants.{Line as ends, Bad}
+use Rattle.opl_text.specs.declared.BadByte.{BadByte}
+use Rattle.opl_lines.specs.declared.Line.{Line as Ends}
 use Rattle.opl_lines.proofs.LineLaws.{judge-past, judge-on, lines_step, lines-never, lines_none}
 use Rattle.record_output.specs.Output.{Fits}
 use Rattle.opl_spaces.specs.Spaces.{limit_of}
@@ -23,58 +22,60 @@ use Rattle.opl_line_names.proofs.LineNames.{leaves, accepts}
 use Rattle.opl_said.specs.Said.{space_at, NumberIs}
 use Rattle.opl_passes.specs.Lines.{lines_at, lines_good, lines_there, pair_record, line_between, Pairs, LineSteps, Paired, RowIs, LinesAre, LineWritten, LinesFit}
 use Rattle.opl_passes.specs.declared.Row.{Row}
-use Rattle.opl_passes.specs.declared.Row.TheVariants.{Pair, Nameless}
-use Rattle.opl_passes.specs.declared.Counted.TheVariants.{Lines, Unnamed}
 
 -- ---- The two numbers of a line.
-module _ (ns : Names) (v w : Text) (x : Found) (task : NumberIs (limit_of 5) (number_in (space_at ns 5) v) x) where
-  pub no-task : x ≡ Nowhere → task_record ns (record { task = v; template = w }) ≡ none
+module _ (ns : Names) (v w : Text) where
+  pub no-task : NumberIs (limit_of 5) (number_in (space_at ns 5) v) None → task_record ns (record { task = v; template = w }) ≡ none
   unfolding space_at
-  no-task e = let z : none ≡ number_in ns.tasks v = rw e at task.number_is in rw (← z)
+  no-task task = let z = task.number_is in rw (← z)
 
-  module _ (a : ℕ) (here : x ≡ At a) (y : Found) (template : NumberIs (limit_of 6) (number_in (space_at ns 6) w) y) where
-    pub no-template : y ≡ Nowhere → task_record ns (record { task = v; template = w }) ≡ none
+  module _ (a : ℕ) (task : NumberIs (limit_of 5) (number_in (space_at ns 5) v) (Some a)) where
+    pub no-template : NumberIs (limit_of 6) (number_in (space_at ns 6) w) None → task_record ns (record { task = v; template = w }) ≡ none
     unfolding space_at
-    no-template e =
-        let u : just a ≡ number_in ns.tasks v = rw here at task.number_is in
-        let z : none ≡ number_in ns.templates w = rw e at template.number_is in
-        rw (← u, ← z)
+    no-template template = let u = task.number_is in let z = template.number_is in rw (← u, ← z)
 
-    pub both-named : (b next : ℕ) → y ≡ At b →
+    pub both-named : (b next : ℕ) → NumberIs (limit_of 6) (number_in (space_at ns 6) w) (Some b) →
         (task_record ns (record { task = v; template = w }) ≡ just (pair_record a b)) × ((a < 65536) × ((b < 65536) × (next ≡ next)))
     unfolding space_at limit_of
-    both-named b next e =
-        let u : just a ≡ number_in ns.tasks v = rw here at task.number_is in
-        let z : just b ≡ number_in ns.templates w = rw e at template.number_is in
-        let p : a < 64 = rw here at task.small in
-        let q : b < 16 = rw e at template.small in
-        (rw (← u, ← z), (omega (arith, p), (omega (arith, q), refl)))
+    both-named b next template =
+        let u = task.number_is in
+        let z = template.number_is in
+        (rw (← u, ← z), (omega (arith, task.small), (omega (arith, template.small), refl)))
 
 -- ---- The line at an index.
 
-module _ (ns : Names) (t : Text) (at : ℕ) (h : at < length t) (ok : lines_good t at) (r : Ends) (reads : ReadsLine t at r) where
-  pub row-never : (j : ℕ) → r ≡ Bad j → RowIs ns t at Nameless
-  row-never j e = leaves (lines (length t) (drop at t)) ok (RowIs ns t at Nameless) (λ z u. absurd (lines-never t at h r reads j z e u))
+module _ (ns : Names) (t : Text) (at : ℕ) (h : at < length t) (ok : lines_good t at) where
+  pub row-never : (e : BadByte) → ReadsLine t at (Err e) → RowIs ns t at None
+  row-never e reads = leaves (lines (length t) (drop at t)) ok (RowIs ns t at None) (λ z u. absurd (lines-never t at h e z reads u))
 
-  module _ (e f n : ℕ) (q : r ≡ ends e f n) where
+  module _ (x : Ends) (reads : ReadsLine t at (Ok x)) where
+    abbrev e : ℕ
+    e = x.task
+
+    abbrev f : ℕ
+    f = x.template
+
+    abbrev n : ℕ
+    n = x.next
+
     pub row_apart : Apart t at e f n
-    row_apart = rw q at reads.stands
+    row_apart = reads.stands
 
     lines_are : lines_at t at ≡ line_between t at e f ∷ lines_at t n
-    lines_are = leaves (lines (length t) (drop at t)) ok (lines_at t at ≡ line_between t at e f ∷ lines_at t n) (λ z u. lines_step t at h r reads e f n q z u)
+    lines_are = leaves (lines (length t) (drop at t)) ok (lines_at t at ≡ line_between t at e f ∷ lines_at t n) (λ z u. lines_step t at h x reads z u)
 
     still : lines_good t n
     still =
-        leaves (lines (length t) (drop at t)) ok (lines_good t n) (λ z u. accepts (lines (length t) (drop n t)) z (sym (judge-on t at h r reads e f n q) ∙ u))
+        leaves (lines (length t) (drop at t)) ok (lines_good t n) (λ z u. accepts (lines (length t) (drop n t)) z (sym (judge-on t at h x reads) ∙ u))
 
     steps : LineSteps t at n
-    steps = let b = judge-past t at h r reads e f n q in record { past = b.0; inside = b.1; good = still }
+    steps = let b = judge-past t at h x reads in record { past = b.0; inside = b.1; good = still }
 
-    pub row_is : (x : Row) → Pairs ns (line_between t at e f) n x → RowIs ns t at x
+    pub row_is : (r : Option Row) → Pairs ns (line_between t at e f) n r → RowIs ns t at r
     unfolding every holds
-    row_is (Pair a b m) p =
+    row_is (Some r) p =
         rw p.1.1.1 (record { steps = steps; line = line_between t at e f; lines_are = lines_are; record_is = p.0; a-fits = p.1.0; b-fits = p.1.1.0 })
-    row_is Nameless p = rw (lines_are, p)
+    row_is None p = rw (lines_are, p)
 
 -- ---- Checking all lines: n lines are checked, and those from `at` on are left.
 pub record LinesLeft (ns : Names) (t : Text) (n at : ℕ) : Type 0 where
@@ -110,10 +111,10 @@ module _ (ns : Names) (t : Text) where
           count = omega (arith, left.count, m);
         }
 
-    pub lines-unnamed : lines_there ns (lines_at t at) ≡ false → LinesAre ns t Unnamed
+    pub lines-unnamed : lines_there ns (lines_at t at) ≡ false → LinesAre ns t None
     lines-unnamed e = left.there-too ∙ e
 
-    pub lines_end : length t ≤ at → LinesAre ns t (Lines n)
+    pub lines_end : length t ≤ at → LinesAre ns t (Some n)
     unfolding every many
     lines_end h =
         let e = no_lines t at h in

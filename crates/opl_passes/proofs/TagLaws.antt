@@ -4,8 +4,9 @@ use mathlib.Core.Path.{◌≡◌, refl, sym, ap, ◌∙◌}
 use mathlib.Core.Bool.{Bool, true, false, ◌&&◌, false≢true}
 use mathlib.Core.List.{List, [], ◌∷◌}
 use native.Mathlib.Omega.{arith}
+use Rattle.std.specs.Prelude.{Option, Some, None}
 use lib.Dec.{eqb}
-use lib.ListN.{length, set, drop, length-set, drop_of_length-le}
+use lib.ListN.{length, set, length-set}
 use lib.Seq.{get_or-set_same, get_or-set_other}
 use borrow.Author.Tests.{eqb-true, eqb-false}
 use Rattle.paper_lower.specs.Lists.{upd, holds, every, many, Every}
@@ -21,22 +22,18 @@ use Rattle.paper_opl.proofs.Inversion.{on_test}
 use Rattle.paper_opl.proofs.Tallied.{tally-is}
 use Rattle.record_output.specs.Output.{two_words, Fits, a_record_of}
 use Rattle.opl_spaces.specs.Spaces.{kept_room, list_of}
-use Rattle.opl_tags.specs.Tags.{next_tags, walk_at}
+use Rattle.opl_tags.specs.Tags.{walk_at}
 use Rattle.opl_said.specs.Said.{Held, SaysIt, Small}
 use Rattle.opl_said.specs.declared.Fields.{Fields}
-use Rattle.opl_said.specs.declared.Fields.TheVariants.{Numbers, Unnamed}
+use Rattle.opl_said.specs.Forms.{numbers}
 use Rattle.opl_turns.specs.Listing.{Leads}
 use Rattle.opl_turns.specs.Turning.{context_of, tags_at, Stood, Led, few_at, Passes, Tells, SmallTag, saying_at}
 use Rattle.opl_turns.specs.declared.Cursor.{Cursor}
 use Rattle.opl_passes.specs.Tags.{of, all_present, there_from, tallied, Counts, Checks, ChecksAll, TagsAre, begins, Begun, TagsFit, FitsAll, Puts, Writes, PutsKept}
-use Rattle.opl_passes.specs.Kept.{low_at, high_at, kind_in, next_to, written_to, KeptLeft, Keeps, AllKept, Keeping, kept_of, Fitting}
-use Rattle.opl_passes.specs.declared.Judged.{Judged}
-use Rattle.opl_passes.specs.declared.Judged.TheVariants.{Nameless as NoneSaid}
+use Rattle.opl_passes.specs.Kept.{low_at, high_at, kind_in, next_to, written_to, KeptLeft, Keeps, AllKept, Keeping, Fitting}
 use Rattle.opl_passes.proofs.KeptLaws.{all-kept, place-fits as kept-fits}
 use Rattle.opl_passes.specs.declared.Checked.{Checked}
-use Rattle.opl_passes.specs.declared.Checked.TheVariants.{Next, Unnamed as Nameless, Done}
-use Rattle.opl_passes.specs.declared.Wrote.{Wrote}
-use Rattle.opl_passes.specs.declared.Wrote.TheVariants.{Ended}
+use Rattle.opl_passes.specs.declared.Checked.TheVariants.{Next, Unnamed, Done}
 
 -- ---- A list with a number for each kind, after one number is changed.
 of-set : (l : List ℕ) (k x : ℕ) → k < length l → of (set l k x) ≡ upd (of l) k x
@@ -63,15 +60,15 @@ module _ (ns : Names) (s : Text) (c : Cursor) where
         room = refl;
       }
 
-  module _ (kind number end : ℕ) (n : Cursor) (t : Tells s c kind number end n) (f : Fields) (says : SaysIt kind (record_said ns (saying_at s kind number end)) f) where
-    pub told_none : f ≡ Unnamed → there_from ns s c ≡ false
+  module _ (kind number end : ℕ) (n : Cursor) (t : Tells s c kind number end n) (f : Option Fields) (says : SaysIt kind (record_said ns (saying_at s kind number end)) f) where
+    pub told_none : f ≡ None → there_from ns s c ≡ false
     unfolding every holds
     told_none e = let z : none ≡ record_said ns (saying_at s kind number end) = rw e at says.says in rw (t.says, ← z)
 
-    pub all_said : f ≡ Unnamed → there_from ns s c ≡ true → {R : Type 0} → R
+    pub all_said : f ≡ None → there_from ns s c ≡ true → {R : Type 0} → R
     all_said e all = absurd (false≢true (sym (told_none e) ∙ all))
 
-    module _ (a₀ a b d m : ℕ) (e : f ≡ Numbers a₀ a b d m) where
+    module _ (a₀ a b d m : ℕ) (e : f ≡ numbers a₀ a b d m) where
       said-is : just (a_record_of kind a₀ a b d m) ≡ record_said ns (saying_at s kind number end)
       said-is = rw e at says.says
 
@@ -154,10 +151,6 @@ module _ (ns : Names) (s : Text) (c : Cursor) where
       }
 
 -- ---- All tags from an index on.
-pub no-tags : (s : Text) (at : ℕ) → length s ≤ at → walk_at s at ≡ []
-unfolding next_tags
-no-tags s at h = let e : drop at s ≡ [] = drop_of_length-le s h in rw e
-
 -- The invariant of checking: the answer for all tags is the answer for the tags from the cursor on, with the counts so far.
 pub record CheckLeft (ns : Names) (s : Text) (ts : List Tag) (l₀ : List ℕ) (c : Cursor) (l : List ℕ) : Type 0 where
   pub stood : Stood s c
@@ -211,9 +204,6 @@ module _ (ns : Names) (s : Text) (from : ℕ) (l₀ : List ℕ) where
           counts = λ _. sym (left.tallies ∙ rw e);
           room = λ _. left.room;
         }
-
-    pub check-end : length s ≤ c.at → ChecksAll ns ts l₀ l (few (context_of c))
-    check-end h = check-none (no-tags s c.at h)
 
     check-over : (l' : List ℕ) → tags_at s c ≡ [] → l' ≡ l → ChecksAll ns ts l₀ l' (few (context_of c))
     check-over l' e q = rw q (check-none e)
@@ -269,28 +259,21 @@ module _ (ns : Names) (s t : Text) (from : ℕ) (l₀ w₀ : List ℕ) where
       }
 
   module _ (c : Cursor) (j : ℕ) (l w : List ℕ) (k : CheckKept ns s t (walk_at s from) l₀ w₀ c j l w) where
-    tags-are : (l' : List ℕ) (b : Bool) → ChecksAll ns (walk_at s from) l₀ l' b → Keeping ns (walk_at s from) w j →
-        TagsAre ns s t (walk_at s from) l₀ l' w₀ w (kept_of b j)
-    tags-are l' true a q = (a, ((k.held, k.list), q))
-    tags-are l' false a q = a
-
     over : tags_at s c ≡ [] → Keeping ns (walk_at s from) w j
     over e room = all-kept ns s (walk_at s from) c w j e (k.kept room)
 
-    pub kept-end : (x : Judged) → x ≡ kept_of (few (context_of c)) j → length s ≤ c.at → TagsAre ns s t (walk_at s from) l₀ l w₀ w x
-    kept-end x q h = rw q (tags-are l (few (context_of c)) (check-end ns s from l₀ c l k.left h) (over (no-tags s c.at h)))
-
-    pub kept-many : few (context_of c) ≡ false → TagsAre ns s t (walk_at s from) l₀ l w₀ w NoneSaid
+    pub kept-many : few (context_of c) ≡ false → TagsAre ns s t (walk_at s from) l₀ l w₀ w None
     kept-many e = check-many ns s from l₀ c l k.left e
 
     module _ (r : Checked) (l' w' : List ℕ) (checks : Checks ns s t c j l l' w w' r) where
-      pub kept-done : (x : Judged) → x ≡ kept_of (few (context_of c)) j → r ≡ Done → TagsAre ns s t (walk_at s from) l₀ l' w₀ w' x
-      kept-done x q e =
+      pub kept-done : few (context_of c) ≡ true → r ≡ Done → TagsAre ns s t (walk_at s from) l₀ l' w₀ w' (Some j)
+      kept-done q e =
           let z : Checks ns s t c j l l' w w' Done = rw e at checks in
-          rw (q, z.1.1) (tags-are l' (few (context_of c)) (check-over ns s from l₀ c l k.left l' z.0 z.1.0) (over z.0))
+          let a = check-over ns s from l₀ c l k.left l' z.0 z.1.0 in
+          rw z.1.1 (rw q at a, ((k.held, k.list), over z.0))
 
-      pub kept-unnamed : r ≡ Nameless → TagsAre ns s t (walk_at s from) l₀ l' w₀ w' NoneSaid
-      kept-unnamed e = let z : Checks ns s t c j l l' w w' Nameless = rw e at checks in check-unnamed ns s from l₀ c l k.left l' z
+      pub kept-unnamed : r ≡ Unnamed → TagsAre ns s t (walk_at s from) l₀ l' w₀ w' None
+      kept-unnamed e = let z : Checks ns s t c j l l' w w' Unnamed = rw e at checks in check-unnamed ns s from l₀ c l k.left l' z
 
       module _ (n : Cursor) (i : ℕ) (e : r ≡ Next n i) where
         on-it : Counts ns s c n l l' × Keeps ns s t c n j i w w'
@@ -345,11 +328,8 @@ module _ (ns : Names) (s : Text) (m : List ℕ) (from : ℕ) (l₀ : List ℕ) (
     pub write-few : few (context_of c) ≡ true
     write-few = few_head (context_of c) (tags_at s c) left.fews
 
-    pub write-end : length s ≤ c.at → out ≡ fill ns start (of l₀) (walk_at s from) out₀
-    write-end h = write-none (no-tags s c.at h)
-
-    pub write-ended : (r : Wrote) (l' : List ℕ) (out' : Bytes) → Writes ns s m c l l' out out' r → r ≡ Ended → out' ≡ fill ns start (of l₀) (walk_at s from) out₀
-    write-ended r l' out' w e = let z : Writes ns s m c l l' out out' Ended = rw e at w in z.1 ∙ write-none z.0
+    pub write-ended : (l' : List ℕ) (out' : Bytes) → Writes ns s m c l l' out out' None → out' ≡ fill ns start (of l₀) (walk_at s from) out₀
+    write-ended l' out' z = z.1 ∙ write-none z.0
 
     pub write-past : (n : Cursor) (l' : List ℕ) (out' : Bytes) → Puts ns s c n l l' out out' → (c.at < n.at) × (n.at ≤ length s)
     write-past n l' out' p = (p.steps.past, p.steps.stood.inside)
@@ -388,7 +368,6 @@ begins-on f (suc k) h = let z : suc k + 1 ≡ suc (suc k) = omega arith in rw z
 -- The invariant of the loop in `begin`: the kinds below k have their first places, and `sum` is the first place of kind k.
 pub record BeginLeft (l₀ : List ℕ) (cap : ℕ) (l : List ℕ) (sum k : ℕ) : Type 0 where
   pub first : 1 ≤ k
-  pub last : k ≤ 19
   pub sum_is : sum ≡ begins (of l₀) k
   pub fits : sum ≤ cap
   pub done : (j : ℕ) → 1 ≤ j → j < k → of l j ≡ begins (of l₀) j
@@ -398,13 +377,11 @@ pub record BeginLeft (l₀ : List ℕ) (cap : ℕ) (l : List ℕ) (sum k : ℕ) 
 pub begin-first : (l₀ : List ℕ) (cap : ℕ) → length l₀ ≡ 19 → BeginLeft l₀ cap l₀ 0 1
 unfolding begins
 begin-first l₀ cap h =
-    record { first = omega arith; last = omega arith; sum_is = refl; fits = omega arith; done = λ j a b. absurd (omega arith); left = λ j a. refl; room = h }
+    record { first = omega arith; sum_is = refl; fits = omega arith; done = λ j a b. absurd (omega arith); left = λ j a. refl; room = h }
 
 module _ (l₀ : List ℕ) (cap : ℕ) (l : List ℕ) (sum k : ℕ) (b : BeginLeft l₀ cap l sum k) where
-  pub begin-end : 19 ≤ k → Begun l₀ l cap sum
-  begin-end h =
-      let z : k ≡ 19 = omega (arith, b.last) in
-      record { total = rw (← z) b.sum_is; fits = b.fits; each-begins = λ j p q. b.done j p (omega arith); kinds = b.room }
+  pub begin-end : k ≡ 19 → Begun l₀ l cap sum
+  begin-end z = record { total = rw (← z) b.sum_is; fits = b.fits; each-begins = λ j p q. b.done j p (omega arith); kinds = b.room }
 
   module _ (h : k < 19) where
     next-is : begins (of l₀) (k + 1) ≡ sum + of l k
@@ -418,7 +395,6 @@ module _ (l₀ : List ℕ) (cap : ℕ) (l : List ℕ) (sum k : ℕ) (b : BeginLe
         let w : k < length l = omega (arith, b.room) in
         record {
           first = omega arith;
-          last = omega arith;
           sum_is = sym next-is;
           fits = omega (arith, b.fits);
           done = λ j p r. on_test (eqb j k)
@@ -430,7 +406,6 @@ module _ (l₀ : List ℕ) (cap : ℕ) (l : List ℕ) (sum k : ℕ) (b : BeginLe
 
 -- ---- Writing the kept records: the first j of them are written.
 pub record KeptPut (w : List ℕ) (l₀ : List ℕ) (out₀ : Bytes) (n : ℕ) (l : List ℕ) (out : Bytes) (j : ℕ) : Type 0 where
-  pub upto : j ≤ n
   pub next-is : of l ≡ next_to w j (of l₀)
   pub written_is : out ≡ written_to w j (of l₀) out₀
   pub room : length out ≡ length out₀
@@ -439,7 +414,7 @@ pub record KeptPut (w : List ℕ) (l₀ : List ℕ) (out₀ : Bytes) (n : ℕ) (
 module _ (w l₀ : List ℕ) (out₀ : Bytes) (n : ℕ) where
   pub put_first : KeptPut w l₀ out₀ n l₀ out₀ 0
   unfolding next_to written_to
-  put_first = record { upto = omega arith; next-is = refl; written_is = refl; room = refl; kinds = refl }
+  put_first = record { next-is = refl; written_is = refl; room = refl; kinds = refl }
 
   module _ (fit : Fitting w n (of l₀) out₀) (l : List ℕ) (out : Bytes) (j : ℕ) (k : KeptPut w l₀ out₀ n l out j) (h : j < n) where
     pub put-fits : 16 * of l (kind_in w j) + 16 ≤ length out
@@ -451,16 +426,12 @@ module _ (w l₀ : List ℕ) (out₀ : Bytes) (n : ℕ) where
         let z : j + 1 ≡ suc j = omega arith in
         rw z
         (record {
-          upto = omega arith;
           next-is = p.next-is ∙ ap (λ (g : ℕ → ℕ). upd g (kind_in w j) (suc (g (kind_in w j)))) k.next-is;
           written_is = p.written_is ∙ ap (λ (g : ℕ → ℕ). two_words out (g (kind_in w j)) (low_at w j) (high_at w j)) k.next-is
               ∙ ap (λ (o : Bytes). two_words o (next_to w j (of l₀) (kind_in w j)) (low_at w j) (high_at w j)) k.written_is;
           room = p.room ∙ k.room;
           kinds = p.kinds ∙ k.kinds;
         })
-
-  pub put_last : (l : List ℕ) (out : Bytes) (j : ℕ) → KeptPut w l₀ out₀ n l out j → n ≤ j → out ≡ written_to w n (of l₀) out₀
-  put_last l out j k h = let z : j ≡ n = omega (arith, k.upto) in k.written_is ∙ ap (λ (i : ℕ). written_to w i (of l₀) out₀) z
 
 pub puts-kept : (w : List ℕ) (j : ℕ) (l : List ℕ) (out out' : Bytes) → kind_in w j < length l →
     out' ≡ two_words out (of l (kind_in w j)) (low_at w j) (high_at w j) → length out' ≡ length out

@@ -1,6 +1,6 @@
 -- The records of the tags that are kept in the scratch buffer, after the tables of names: two words each, in the order of the tags. Writing them gives the same
 -- output as writing the records of the tags.
-use Rattle.std.specs.Prelude.{ℕ, zero, suc, ◌+◌, ◌*◌, ◌%◌, ◌≤◌, ◌<◌, ◌≡◌, Bool, true, false, cond, List, leb, length, get_or, set}
+use Rattle.std.specs.Prelude.{ℕ, zero, suc, ◌+◌, ◌*◌, ◌%◌, ◌≤◌, ◌<◌, ◌≡◌, cond, List, leb, length, get_or, set}
 use Rattle.paper_lower.specs.Lists.{upd}
 use Rattle.paper_lower.specs.Records.{Bytes}
 use Rattle.paper_opl.specs.Reading.{Text}
@@ -13,8 +13,6 @@ use Rattle.opl_spaces.specs.Spaces.{table_words, kept_room, list_of}
 use Rattle.opl_said.specs.Said.{Held}
 use Rattle.opl_turns.specs.Turning.{context_of, tags_at, Led}
 use Rattle.opl_turns.specs.declared.Cursor.{Cursor}
-use Rattle.opl_passes.specs.declared.Judged.{Judged}
-use Rattle.opl_passes.specs.declared.Judged.TheVariants.{Records, Nameless}
 
 -- ---- Kept record j.
 
@@ -75,11 +73,6 @@ pub record AllKept (ns : Names) (ts : List Tag) (w : List ℕ) (n : ℕ) : Type 
 -- The same, if there was room for them.
 abbrev pub Keeping : Names → List Tag → List ℕ → ℕ → Type 0
 Keeping ns ts w n = n ≤ kept_room → AllKept ns ts w n
-
--- The result at the end of the tags.
-abbrev pub kept_of : Bool → ℕ → Judged
-kept_of true j = Records j
-kept_of false j = Nameless
 
 -- ---- Writing them.
 

@@ -1,5 +1,5 @@
 -- The records of the task lines, from an index of the text on.
-use Rattle.std.specs.Prelude.{ℕ, ◌+◌, ◌*◌, ◌-◌, ◌≤◌, ◌<◌, ◌≡◌, Bool, true, false, List, ◌∷◌, length, take, drop}
+use Rattle.std.specs.Prelude.{ℕ, ◌+◌, ◌*◌, ◌-◌, ◌≤◌, ◌<◌, ◌≡◌, Bool, true, false, List, ◌∷◌, length, take, drop, Option, Some, None}
 use Rattle.paper_lower.specs.Lists.{there, every, many}
 use Rattle.paper_lower.specs.Lists.Maybe.{none, just}
 use Rattle.paper_lower.specs.Records.{Bytes, Record}
@@ -9,9 +9,6 @@ use Rattle.paper_opl.specs.Filling.{fill_lines}
 use Rattle.opl_lines.specs.Lines.{lines_read, lines_in}
 use Rattle.opl_line_names.specs.Names.{accepted}
 use Rattle.opl_passes.specs.declared.Row.{Row}
-use Rattle.opl_passes.specs.declared.Row.TheVariants.{Pair, Nameless}
-use Rattle.opl_passes.specs.declared.Counted.{Counted}
-use Rattle.opl_passes.specs.declared.Counted.TheVariants.{Lines, Unnamed}
 
 -- The task lines from an index on.
 abbrev pub lines_at : Text → ℕ → List Line
@@ -45,23 +42,23 @@ pub record Paired (ns : Names) (t : Text) (at a b next : ℕ) : Type 0 where
   pub b-fits : b < 65536
 
 -- The contract of `row_at`.
-abbrev pub RowIs : Names → Text → ℕ → Row → Type 0
-RowIs ns t at (Pair a b next) = Paired ns t at a b next
-RowIs ns t at Nameless = lines_there ns (lines_at t at) ≡ false
+abbrev pub RowIs : Names → Text → ℕ → Option Row → Type 0
+RowIs ns t at (Some r) = Paired ns t at r.a r.b r.next
+RowIs ns t at None = lines_there ns (lines_at t at) ≡ false
 
 -- The line whose task ends at e and whose template ends at f.
 abbrev pub line_between : Text → ℕ → ℕ → ℕ → Line
 line_between t at e f = record { task = take (e - at) (drop at t); template = take (f - (e + 1)) (drop (e + 1) t) }
 
 -- The contract of `numbers`.
-abbrev pub Pairs : Names → Line → ℕ → Row → Type 0
-Pairs ns l next (Pair a b n) = (task_record ns l ≡ just (pair_record a b)) × ((a < 65536) × ((b < 65536) × (n ≡ next)))
-Pairs ns l next Nameless = task_record ns l ≡ none
+abbrev pub Pairs : Names → Line → ℕ → Option Row → Type 0
+Pairs ns l next (Some r) = (task_record ns l ≡ just (pair_record r.a r.b)) × ((r.a < 65536) × ((r.b < 65536) × (r.next ≡ next)))
+Pairs ns l next None = task_record ns l ≡ none
 
 -- The contract of `check_lines`.
-abbrev pub LinesAre : Names → Text → Counted → Type 0
-LinesAre ns t (Lines k) = (lines_there ns (lines_in t) ≡ true) × ((many (lines_in t) ≡ k) × (k ≤ length t))
-LinesAre ns t Unnamed = lines_there ns (lines_in t) ≡ false
+abbrev pub LinesAre : Names → Text → Option ℕ → Type 0
+LinesAre ns t (Some k) = (lines_there ns (lines_in t) ≡ true) × ((many (lines_in t) ≡ k) × (k ≤ length t))
+LinesAre ns t None = lines_there ns (lines_in t) ≡ false
 
 -- The contract of `write_line`, which writes to place p.
 pub record LineWritten (ns : Names) (t : Text) (at p next : ℕ) (out out' : Bytes) : Type 0 where

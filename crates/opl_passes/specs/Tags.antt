@@ -1,5 +1,5 @@
 -- The records of the tags from a cursor on: whether all can be made, how many each kind has, and the output with them.
-use Rattle.std.specs.Prelude.{ℕ, zero, suc, ◌+◌, ◌*◌, ◌≤◌, ◌<◌, ◌≡◌, Bool, true, false, ◌&&◌, List, [], length, get_or}
+use Rattle.std.specs.Prelude.{ℕ, zero, suc, ◌+◌, ◌*◌, ◌≤◌, ◌<◌, ◌≡◌, Bool, true, false, ◌&&◌, List, [], length, get_or, Option, Some, None}
 use Rattle.paper_lower.specs.Lists.{upd, there, every}
 use Rattle.paper_lower.specs.Records.{Bytes}
 use Rattle.paper_opl.specs.Reading.{Text}
@@ -14,12 +14,6 @@ use Rattle.opl_turns.specs.Turning.{context_of, tags_at, Led, Steps}
 use Rattle.opl_turns.specs.declared.Cursor.{Cursor}
 use Rattle.opl_passes.specs.declared.Checked.{Checked}
 use Rattle.opl_passes.specs.declared.Checked.TheVariants.{Next, Unnamed, Done}
-use Rattle.opl_passes.specs.declared.Judged.{Judged}
-use Rattle.opl_passes.specs.declared.Judged.TheVariants.{Records, Nameless}
-use Rattle.opl_passes.specs.declared.Wrote.{Wrote}
-use Rattle.opl_passes.specs.declared.Wrote.TheVariants.{Onward, Ended}
-use Rattle.opl_passes.specs.declared.Sum.{Sum}
-use Rattle.opl_passes.specs.declared.Sum.TheVariants.{Total, Over}
 use Rattle.opl_passes.specs.Kept.{low_at, high_at, kind_in, Keeps, Keeping}
 
 -- The number for kind k, in a list with a number for each kind.
@@ -61,9 +55,9 @@ pub record ChecksAll (ns : Names) (ts : List Tag) (l l' : List ℕ) (r : Bool) :
   pub room : r ≡ true → length l' ≡ length l
 
 -- The contract of `check_tags`.
-abbrev pub TagsAre : Names → Text → Text → List Tag → List ℕ → List ℕ → List ℕ → List ℕ → Judged → Type 0
-TagsAre ns s t ts l l' w w' (Records j) = ChecksAll ns ts l l' true × ((Held s t ns w' × (list_of w' ≡ list_of w)) × Keeping ns ts w' j)
-TagsAre ns s t ts l l' w w' Nameless = ChecksAll ns ts l l' false
+abbrev pub TagsAre : Names → Text → Text → List Tag → List ℕ → List ℕ → List ℕ → List ℕ → Option ℕ → Type 0
+TagsAre ns s t ts l l' w w' (Some j) = ChecksAll ns ts l l' true × ((Held s t ns w' × (list_of w' ≡ list_of w)) × Keeping ns ts w' j)
+TagsAre ns s t ts l l' w w' None = ChecksAll ns ts l l' false
 
 -- ---- Where each kind begins.
 
@@ -81,9 +75,9 @@ pub record Begun (l l' : List ℕ) (cap n : ℕ) : Type 0 where
   pub kinds : length l' ≡ 19
 
 -- The contract of `begin`.
-abbrev pub Sums : List ℕ → List ℕ → ℕ → Sum → Type 0
-Sums l l' cap (Total n) = Begun l l' cap n
-Sums l l' cap Over = cap < begins (of l) 19
+abbrev pub Sums : List ℕ → List ℕ → ℕ → Option ℕ → Type 0
+Sums l l' cap (Some n) = Begun l l' cap n
+Sums l l' cap None = cap < begins (of l) 19
 
 -- ---- Writing the record of one tag.
 
@@ -105,9 +99,9 @@ pub record Puts (ns : Names) (s : Text) (c n : Cursor) (l l' : List ℕ) (out ou
   pub kinds : length l' ≡ length l
 
 -- The contract of `write_at`, with the list of tags m.
-abbrev pub Writes : Names → Text → List ℕ → Cursor → List ℕ → List ℕ → Bytes → Bytes → Wrote → Type 0
-Writes ns s m c l l' out out' (Onward n) = Puts ns s c n l l' out out' × Led s m n
-Writes ns s m c l l' out out' Ended = (tags_at s c ≡ []) × (out' ≡ out)
+abbrev pub Writes : Names → Text → List ℕ → Cursor → List ℕ → List ℕ → Bytes → Bytes → Option Cursor → Type 0
+Writes ns s m c l l' out out' (Some n) = Puts ns s c n l l' out out' × Led s m n
+Writes ns s m c l l' out out' None = (tags_at s c ≡ []) × (out' ≡ out)
 
 -- ---- Writing one kept record.
 

@@ -6,7 +6,7 @@ use Rattle.opl_passes.proofs.LineLaws.{LinesLeft}
 use Rattle.opl_passes.proofs.check_lines.Given as goal
 
 abbrev pub invariant-loop-at : goal.invariant-loop-at
-invariant-loop-at l = LinesLeft (all_names l.s l.t) l.t l.n l.at
+invariant-loop-at l = LinesLeft (all_names l.texts.policy.now l.texts.lines.now) l.texts.lines.now l.n l.at
 
 abbrev pub decreases-loop-at : goal.decreases-loop-at
-decreases-loop-at l = length l.t - l.at
+decreases-loop-at l = length l.texts.lines.now - l.at

@@ -1,7 +1,4 @@
 -- `keep` meets its contract: it stores two words if there is room.
-use Prim.Native.Nat.{◌+◌, ◌*◌}
-use lib.ListN.{length-set}
-use native.Mathlib.Omega.{arith}
 use borrow.Author.Tests.{le-leb, lt-leb}
 use Rattle.opl_passes.specs.Kept.{kept_with}
 use Rattle.opl_passes.proofs.keep.Goals as goal
@@ -9,9 +6,6 @@ use Rattle.opl_passes.proofs.keep.Goals as goal
 pub returns-then-j-ge-KEPT : goal.returns-then-j-ge-KEPT
 unfolding kept_with
 returns-then-j-ge-KEPT c = rw (le-leb 131072 c.args.j c.if-j-ge-KEPT.true)
-
-pub bounds-w-at-2 : goal.bounds-w-at-2
-bounds-w-at-2 c = omega (arith, length-set c.args.w.now (397495 + 2 * c.args.j) c.args.low, c.requires, c.if-j-ge-KEPT.false)
 
 pub returns : goal.returns
 unfolding kept_with

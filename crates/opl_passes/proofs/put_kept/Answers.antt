@@ -6,7 +6,5 @@ use Rattle.opl_passes.proofs.put_kept.Goals as goal
 pub returns : goal.returns
 returns c =
     let args = c.args in
-    let pre = c.requires in
-    let put-words = c.put_words in
-    puts-kept args.w.now args.j args.next.now args.out.now put-words.new.out (omega (arith, pre.1.1.0, pre.1.1.1.0))
-    put-words.ensures put-words.auto.out
+    puts-kept args.w.now args.j args.next.now args.out.now c.put_words.new.out (omega (arith, c.requires.1.1.0, c.told-next)) c.put_words.ensures
+    c.put_words.auto.out

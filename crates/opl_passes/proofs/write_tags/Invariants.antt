@@ -7,8 +7,8 @@ use Prim.Native.Nat.{◌-◌}
 use lib.ListN.{length}
 use Rattle.opl_passes.proofs.write_tags.Given as goal
 
-abbrev pub invariant-loop-c : goal.invariant-loop-c
-invariant-loop-c l = WriteLeft (all_names l.s l.t) l.s (list_of l.w) (walk_at l.s l.from) l.initial.next l.initial.out l.c l.next l.out
+abbrev pub invariant-loop-n : goal.invariant-loop-n
+invariant-loop-n l = WriteLeft (all_names l.texts.policy.now l.texts.lines.now) l.texts.policy.now (list_of l.texts.scratch.now) (walk_at l.texts.policy.now l.fn.from) l.initial.next l.initial.out l.c l.next l.out
 
-abbrev pub decreases-loop-c : goal.decreases-loop-c
-decreases-loop-c l = length l.s - l.c.at
+abbrev pub decreases-loop-n : goal.decreases-loop-n
+decreases-loop-n l = length l.texts.policy.now - l.c.at
