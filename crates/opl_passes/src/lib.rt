@@ -169,8 +169,8 @@ fn check_at(
     }
 }
 
-// Looks up, counts and keeps the records of all tags from `from` on, and returns their number; none if a name has no number or there are too many partitionings,
-// walls or blocks.
+// Looks up, counts and keeps the records of all tags from `from` on, and returns their number; none if a name has no number or there are too many
+// partitionings, walls or blocks.
 pub fn check_tags(
     s: &[u8],
     t: &[u8],

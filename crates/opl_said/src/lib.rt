@@ -56,8 +56,8 @@ pub struct Fields {
     pub m: u64,
 }
 
-// A tag that was met while looking for elements inside another: `Here`, one that is looked for; `Other`, a different one inside it, with the index to go on from
-// and the number of listed tags up to there; `Last`, no further one inside.
+// A tag that was met while looking for elements inside another: `Here`, one that is looked for; `Other`, a different one inside it, with the index to go on
+// from and the number of listed tags up to there; `Last`, no further one inside.
 #[derive(Clone, Copy)]
 pub enum Member {
     Other { next: usize, entry: usize },

@@ -41,15 +41,16 @@ pub struct Cursor {
     pub blocks: usize,
 }
 
-// A tag that was met: a start tag of element `id` whose name ends at `end`, and the number of listed tags up to it; or an end tag, with the index to go on from.
+// A tag that was met: a start tag of element `id` whose name ends at `end`, and the number of listed tags up to it; or an end tag, with the index to go on
+// from.
 #[derive(Clone, Copy)]
 pub enum Met {
     Begun { id: u64, end: usize, entry: usize },
     Ended(usize),
 }
 
-// What a tag yields: a record of a kind, with the number of its partitioning or block, and the end of the tag's name; or no record. `next` is the position after
-// it.
+// What a tag yields: a record of a kind, with the number of its partitioning or block, and the end of the tag's name; or no record. `next` is the position
+// after it.
 #[derive(Clone, Copy)]
 pub enum Turned {
     Says {
