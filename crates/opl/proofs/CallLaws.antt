@@ -2,9 +2,10 @@
 -- is the defined one, no second answer fits, and a refusal writes nothing.
 use Prim.Native.Nat.{ℕ, zero, suc, ◌+◌, ◌-◌, ◌≤◌, ◌<◌}
 use mathlib.Core.Path.{◌≡◌, refl, sym, ap, ◌∙◌}
-use mathlib.Core.Bool.{Bool, true, false, false≢true, true≢false}
+use mathlib.Core.Bool.{Bool, true, false, cond, false≢true, true≢false}
 use mathlib.Core.List.{List, [], ◌∷◌}
 use native.Mathlib.Omega.{arith}
+use Rattle.std.specs.Prelude.{Result, Ok, Err}
 use lib.Dec.{eqb, leb}
 use lib.ListN.{length, drop, length-drop}
 use borrow.Author.Tests.{eq-eqb, ne_eqb}
@@ -23,8 +24,7 @@ use Rattle.paper_opl.proofs.Cardinalities.{value-small}
 use Rattle.paper_opl.proofs.LeftToRight.{walk-gives}
 use Rattle.paper_opl.proofs.ShortNames.{ShortNames, short-names}
 use Rattle.opl_text.specs.Steps.{Reads, step_of}
-use Rattle.opl_text.specs.declared.Step.{Step}
-use Rattle.opl_text.specs.declared.Step.TheVariants.{Next, Bad}
+use Rattle.opl_text.specs.declared.BadByte.{BadByte}
 use Rattle.opl_reader.specs.Grammar.{forget}
 use Rattle.opl_lines.specs.Lines.{lines_in, forget as forget_lines}
 use Rattle.opl_spaces.specs.Spaces.{scratch_words}
@@ -36,9 +36,10 @@ use Rattle.opl_line_names.proofs.LineNames.{tasks-are, templates-are}
 use Rattle.opl_said.proofs.HeldLaws.{AllCardinal, all-cardinal}
 use Rattle.opl_turns.specs.Turning.{SmallTag}
 use Rattle.opl_naming.specs.Naming.{declared_of, LongName, Names}
-use Rattle.opl.specs.declared.Answer.{Answer}
-use Rattle.opl.specs.Call.{answer, answered, Answers, inside_one, bad_policy, Exported, AnswersAsDefined, OneAnswer, CallsAlike, RefusalsKeep}
-use Rattle.opl.specs.Steps.{refusal, bad_text, Accepts, records_answer, accepted_answer, Gives, Ready}
+use Rattle.opl.specs.declared.Refused.{Refused}
+use Rattle.opl.specs.declared.Refused.TheVariants.{Policy, Lines, Names as Unnamed, Room}
+use Rattle.opl.specs.Call.{answer, Answer, answered, Answers, inside_one, Exported, AnswersAsDefined, OneAnswer, CallsAlike, RefusalsKeep}
+use Rattle.opl.specs.Steps.{Accepts, records_answer, accepted_answer, Gives, Ready}
 use Rattle.opl.proofs.JoinLaws.{unnamed}
 
 -- ---- An accepted reading.
@@ -72,28 +73,26 @@ calls-alike words s t out e = reads_on (document_in false s) e (λ es z x. rw (x
 place_is : (s : Text) (i : ℕ) → i ≤ length s → suc (length s - length (drop i s)) ≡ i + 1
 place_is s i h = omega (arith, length-drop i s)
 
-module _ (all : Bool) (s t : Text) (words : ℕ) (out : Bytes) (d : Step) (reads : Reads s (step_of s) (forget (document_in all s)) d) where
-  pub bad-inside : (i : ℕ) → d ≡ Bad i → i ≤ length s
-  bad-inside i e = rw e at reads.inside
+module _ (all : Bool) (s t : Text) (words : ℕ) (out : Bytes) where
+  module _ (e : BadByte) (reads : Reads s (step_of s) (forget (document_in all s)) (Err e)) where
+    bad-policy : Answers all s t words out out (Err (Policy (e.at + 1)))
+    unfolding answer
+    bad-policy =
+        on (document_in all s)
+        (λ es z q. absurd (bad≢got (reads.read_is ∙ ap forget q)))
+        (λ z q.
+        let w : ◌≡◌ {A = Read (Unit {0})} (bad (drop e.at s)) (bad z) = reads.read_is ∙ ap forget q in
+        record { answer-is = rw (q, ← bad-rest w, place_is s e.at reads.inside); room = refl })
 
-  bad-policy : (i : ℕ) → d ≡ Bad i → Answers all s t words out out (bad_text i 1)
-  unfolding answer
-  bad-policy i e =
-      on (document_in all s)
-      (λ es z q. absurd (bad≢got ((rw e at reads.read_is) ∙ ap forget q)))
-      (λ z q.
-      let w : ◌≡◌ {A = Read (Unit {0})} (bad (drop i s)) (bad z) = (rw e at reads.read_is) ∙ ap forget q in
-      record { answer-is = rw (q, ← bad-rest w, place_is s i (bad-inside i e)); room = refl })
+    pub bad-number : (n : ℕ) → n ≡ inside_one (answered (Err (Policy (e.at + 1))) []) → Exported all s t words out out n
+    bad-number n q =
+        let a = bad-policy in
+        record { number_is = q ∙ ap inside_one a.answer-is; output-is = ap (λ (x : Translated). x.output) a.answer-is }
 
-  pub bad-number : (i : ℕ) → d ≡ Bad i → Exported all s t words out out (bad_policy i)
-  bad-number i e =
-      let a = bad-policy i e in
-      record { number_is = ap inside_one a.answer-is; output-is = ap (λ (x : Translated). x.output) a.answer-is }
-
-  module _ (j : ℕ) (e : d ≡ Next j) where
+  module _ (j : ℕ) (reads : Reads s (step_of s) (forget (document_in all s)) (Ok j)) where
     policy-good : accepted (document_in all s) ≡ true
     policy-good =
-        on (document_in all s) (λ es z q. rw q) (λ z q. absurd (bad≢got (sym (ap forget q) ∙ sym (rw e at reads.read_is))))
+        on (document_in all s) (λ es z q. rw q) (λ z q. absurd (bad≢got (sym (ap forget q) ∙ sym reads.read_is)))
 
     pub policy-wider : accepted (document_in true s) ≡ true
     policy-wider = wider all s policy-good
@@ -109,31 +108,31 @@ module _ (all : Bool) (s t : Text) (words : ℕ) (out : Bytes) (d : Step) (reads
             record { number_is = x.number_is ∙ ap inside_one e; output-is = x.output-is ∙ ap (λ (a : Translated). a.output) e }
 
 -- ---- After an accepted policy text: the task lines are refused or accepted.
-module _ (s t : Text) (words : ℕ) (out : Bytes) (good : accepted (document_in true s) ≡ true) (u : Text) (behind : u ≡ behind_mark t) (l : Step)
-    (reads₂ : Reads u (step_of u) (forget_lines (lines (length u) u)) l) where
+module _ (s t : Text) (words : ℕ) (out : Bytes) (good : accepted (document_in true s) ≡ true) (u : Text) (behind : u ≡ behind_mark t) where
   no_longer : length u ≤ length t
   unfolding behind_mark
   no_longer = rw behind (on_test (starts byte_order_mark t) (λ c. rw c (omega (arith, length-drop 3 t))) (λ c. rw c (omega arith)))
 
-  pub line-inside : (i : ℕ) → l ≡ Bad i → (length u ≤ length t) × (length t - length u + i ≤ length t)
-  line-inside i q = let h : i ≤ length u = rw q at reads₂.inside in (no_longer, omega (arith, no_longer))
+  module _ (e : BadByte) (reads : Reads u (step_of u) (forget_lines (lines (length u) u)) (Err e)) where
+    pub line-inside : (length u ≤ length t) × (length t - length u + e.at ≤ length t)
+    line-inside = (no_longer, omega (arith, no_longer, reads.inside))
 
-  pub bad-lines : (i : ℕ) → l ≡ Bad i → Answers true s t words out out (bad_text (length t - length u + i) 2)
-  unfolding answer task_lines
-  bad-lines i q =
-      reads_on (document_in true s) good (λ es z x. on (lines (length u) u)
-      (λ ls y v. absurd (bad≢got ((rw q at reads₂.read_is) ∙ ap forget_lines v)))
-      (λ y v.
-      let w : ◌≡◌ {A = Read (Unit {0})} (bad (drop i u)) (bad y) = (rw q at reads₂.read_is) ∙ ap forget_lines v in
-      let h : i ≤ length u = rw q at reads₂.inside in
-      let p : suc (length t - length (drop i u)) ≡ length t - length u + i + 1 = omega (arith, no_longer, length-drop i u) in
-      record { answer-is = rw (x, ← behind, v, ← bad-rest w, p); room = refl }))
+    pub bad-lines : Answers true s t words out out (Err (Lines (length t - length u + e.at + 1)))
+    unfolding answer task_lines
+    bad-lines =
+        reads_on (document_in true s) good (λ es z x. on (lines (length u) u)
+        (λ ls y v. absurd (bad≢got (reads.read_is ∙ ap forget_lines v)))
+        (λ y v.
+        let w : ◌≡◌ {A = Read (Unit {0})} (bad (drop e.at u)) (bad y) = reads.read_is ∙ ap forget_lines v in
+        let h : e.at ≤ length u = reads.inside in
+        let p : suc (length t - length (drop e.at u)) ≡ length t - length u + e.at + 1 = omega (arith, no_longer, length-drop e.at u) in
+        record { answer-is = rw (x, ← behind, v, ← bad-rest w, p); room = refl }))
 
-  pub both-accepted : (i : ℕ) → l ≡ Next i → Accepts s u
-  both-accepted i q =
+  pub both-accepted : (i : ℕ) → Reads u (step_of u) (forget_lines (lines (length u) u)) (Ok i) → Accepts s u
+  both-accepted i reads =
       record {
         policy = good;
-        task-lines = on (lines (length u) u) (λ ls z v. rw v) (λ z v. absurd (bad≢got (sym (ap forget_lines v) ∙ sym (rw q at reads₂.read_is))));
+        task-lines = on (lines (length u) u) (λ ls z v. rw v) (λ z v. absurd (bad≢got (sym (ap forget_lines v) ∙ sym reads.read_is)));
       }
 
 module _ (s t u : Text) (behind : u ≡ behind_mark t) (words : ℕ) (out : Bytes) (a : Accepts s u) where
@@ -148,7 +147,7 @@ module _ (s t u : Text) (behind : u ≡ behind_mark t) (words : ℕ) (out : Byte
 
 -- ---- Two accepted texts.
 module _ (s t : Text) (words : ℕ) (out : Bytes) where
-  pub no-scratch : (words ≡ scratch_words → ⊥) → Gives (accepted_answer words s t out) out out (refusal 1)
+  pub no-scratch : (words ≡ scratch_words → ⊥) → Gives (accepted_answer words s t out) out out (Err Room)
   unfolding accepted_answer
   no-scratch n = record { answer-is = rw (ne_eqb words scratch_words n); room = refl }
 
@@ -157,23 +156,23 @@ module _ (s t : Text) (words : ℕ) (out : Bytes) where
   unfolding accepted_answer
   with-scratch out' r e g = record { answer-is = g.answer-is ∙ rw (eq-eqb words scratch_words e); room = g.room }
 
-module _ (s t : Text) (a : Accepts s t) (p : Step) (reads : Reads s (step_of s) (prolog s) p) where
-  pub never-begun : (i : ℕ) → p ≡ Bad i → {R : Type 0} → R
+module _ (s t : Text) (a : Accepts s t) where
+  pub never-begun : (e : BadByte) → Reads s (step_of s) (prolog s) (Err e) → {R : Type 0} → R
   unfolding document_in
-  never-begun i e = let z : bad (drop i s) ≡ prolog s = rw e at reads.read_is in absurd (false≢true (rw (← z) at a.policy))
+  never-begun e reads = let z = reads.read_is in absurd (false≢true (rw (← z) at a.policy))
 
-  module _ (from : ℕ) (e : p ≡ Next from) where
+  module _ (from : ℕ) (reads : Reads s (step_of s) (prolog s) (Ok from)) where
     pub begins-inside : from ≤ length s
-    begins-inside = rw e at reads.inside
+    begins-inside = reads.inside
 
     pub begins-there : tags s ≡ walk_at s from
-    begins-there = reads_on (document_in true s) a.policy (λ es z u. tags-met true s es z (drop from s) u (sym (rw e at reads.read_is)))
+    begins-there = reads_on (document_in true s) a.policy (λ es z u. tags-met true s es z (drop from s) u (sym reads.read_is))
 
     smalls : (ts : List Tag) → AllCardinal ts → Every SmallTag ts
     smalls [] h = tt
     smalls (t ∷ ts) h = (value-small t.given h.0, smalls ts h.1)
 
-    pub ready : (l : List ℕ) → Names s t from l true → Ready s t l from
+    pub ready : (l : List ℕ) → Names s t from l (Ok tt) → Ready s t l from
     ready l h =
         record {
           held = h.0;
@@ -195,7 +194,7 @@ all_short s t (suc (suc (suc (suc (suc zero))))) h n = ap (every short) (tasks-a
 all_short s t (suc (suc (suc (suc (suc (suc zero)))))) h n = ap (every short) (templates-are t) ∙ n.templates
 all_short s t (suc (suc (suc (suc (suc (suc (suc i))))))) h n = absurd (omega arith)
 
-pub too_long : (s t : Text) (out : Bytes) → Accepts s t → LongName s t → Gives (records_answer s t out) out out (refusal 22)
+pub too_long : (s t : Text) (out : Bytes) → Accepts s t → LongName s t → Gives (records_answer s t out) out out (Err Unnamed)
 too_long s t out a n =
     unnamed s t out (on-found (records_in (tags s) (lines_in t))
     (λ rs q. reads_on (document_in true s) a.policy
@@ -207,9 +206,32 @@ pub answers-as-defined : AnswersAsDefined
 unfolding answer translate_in
 answers-as-defined all s t out = refl
 
+-- The code's answer, from what it means.
+read_back : Translated → Answer
+read_back a =
+    cond (eqb a.reply 0) (Ok a.count) (cond (eqb a.reply 1) (Err Room) (cond (eqb a.reply 22) (Err Unnamed)
+    (cond (eqb a.which 1) (Err (Policy a.place)) (Err (Lines a.place)))))
+
+reads-back : (r : Answer) (out : Bytes) → read_back (answered r out) ≡ r
+unfolding read_back
+reads-back (Ok count) out = refl
+reads-back (Err (Policy place)) out = refl
+reads-back (Err (Lines place)) out = refl
+reads-back (Err Unnamed) out = refl
+reads-back (Err Room) out = refl
+
+output-of : (r : Answer) (out : Bytes) → (answered r out).output ≡ out
+output-of (Ok count) out = refl
+output-of (Err (Policy place)) out = refl
+output-of (Err (Lines place)) out = refl
+output-of (Err Unnamed) out = refl
+output-of (Err Room) out = refl
+
 fields-are : (r₁ r₂ : Answer) (out₁ out₂ : Bytes) → answered r₁ out₁ ≡ answered r₂ out₂ → (r₁ ≡ r₂) × (out₁ ≡ out₂)
-fields-are r₁ r₂ out₁ out₂ e =
-    (ap (λ (a : Translated). record { reply = a.reply; place = a.place; which = a.which; count = a.count }) e, ap (λ (a : Translated). a.output) e)
+fields-are r₁ r₂ out₁ out₂ e = (
+  sym (reads-back r₁ out₁) ∙ ap read_back e ∙ reads-back r₂ out₂,
+  sym (output-of r₁ out₁) ∙ ap (λ (a : Translated). a.output) e ∙ output-of r₂ out₂,
+)
 
 -- No second answer fits.
 pub one_answer : OneAnswer
@@ -230,31 +252,22 @@ refusal-keeps all words s t out n =
 
 pub refusals-keep : RefusalsKeep
 refusals-keep all s t words out out' r a n =
-    ap (λ (x : Translated). x.output) a.answer-is
+    sym (output-of r out') ∙ ap (λ (x : Translated). x.output) a.answer-is
     ∙ refusal-keeps all words s t out (λ e. n (ap (λ (x : Translated). x.reply) a.answer-is ∙ e))
 
 -- ---- The answer as one number.
-small-answer : (all : Bool) (words : ℕ) (s t : Text) (out : Bytes) → ((answer all words s t out).reply < 256) × ((answer all words s t out).which < 4)
-unfolding answer
-small-answer all words s t out =
-    on (document_in all s)
-    (λ es z u. on (task_lines t)
-    (λ ls y v. on_test (eqb words scratch_words)
-    (λ q. on-found (records_of es ls)
-    (λ rs p. on_test (leb (length (written rs)) (length out)) (λ f. rw (u, v, q, p, f) (omega arith, omega arith))
-    (λ f. rw (u, v, q, p, f) (omega arith, omega arith)))
-    (λ p. rw (u, v, q, p) (omega arith, omega arith)))
-    (λ q. rw (u, v, q) (omega arith, omega arith)))
-    (λ y v. rw (u, v) (omega arith, omega arith)))
-    (λ z u. rw u (omega arith, omega arith))
+-- The number does not depend on the output.
+same-number : (r : Answer) (out : Bytes) → inside_one (answered r []) ≡ inside_one (answered r out)
+same-number (Ok count) out = refl
+same-number (Err (Policy place)) out = refl
+same-number (Err (Lines place)) out = refl
+same-number (Err Unnamed) out = refl
+same-number (Err Room) out = refl
 
-pub small-reply : (all : Bool) (s t : Text) (words : ℕ) (out out' : Bytes) (r : Answer) → Answers all s t words out out' r → (r.reply < 256) × (r.which < 4)
-small-reply all s t words out out' r a =
-    let b = small-answer all words s t out in
-    let e = ap (λ (x : Translated). x.reply) a.answer-is in
-    let f = ap (λ (x : Translated). x.which) a.answer-is in
-    (omega (arith, b.0, e), omega (arith, b.1, f))
-
-pub exported : (all : Bool) (s t : Text) (words : ℕ) (out out' : Bytes) (r : Answer) → Answers all s t words out out' r →
-    Exported all s t words out out' (inside_one (answered r out'))
-exported all s t words out out' r a = record { number_is = ap inside_one a.answer-is; output-is = ap (λ (x : Translated). x.output) a.answer-is }
+pub exported : (all : Bool) (s t : Text) (words : ℕ) (out out' : Bytes) (r : Answer) (n : ℕ) → Answers all s t words out out' r →
+    n ≡ inside_one (answered r []) → Exported all s t words out out' n
+exported all s t words out out' r n a q =
+    record {
+      number_is = q ∙ same-number r out' ∙ ap inside_one a.answer-is;
+      output-is = sym (output-of r out') ∙ ap (λ (x : Translated). x.output) a.answer-is;
+    }

@@ -4,6 +4,7 @@ use mathlib.Core.Path.{◌≡◌, refl, sym, ap, ◌∙◌}
 use mathlib.Core.Bool.{Bool, true, false, ◌&&◌, false≢true, true≢false}
 use mathlib.Core.List.{List, ◌++◌}
 use native.Mathlib.Omega.{arith}
+use Rattle.std.specs.Prelude.{Ok, Err}
 use lib.Dec.{eqb}
 use lib.ListN.{length, set, drop, replicate, length-set}
 use lib.Seq.{get_or-set_same, get_or-set_other}
@@ -26,7 +27,8 @@ use Rattle.opl_said.specs.Said.{all_names}
 use Rattle.opl_passes.specs.Lines.{lines_at, lines_there, LinesFit}
 use Rattle.opl_passes.specs.Tags.{of, all_present, ChecksAll, begins, Begun, FitsAll}
 use Rattle.opl_passes.proofs.TagLaws.{begins-upto}
-use Rattle.opl.specs.Steps.{refusal, records_answer, Gives}
+use Rattle.opl.specs.Steps.{records_answer, Gives}
+use Rattle.opl.specs.declared.Refused.TheVariants.{Names, Room}
 use Rattle.opl.proofs.CountLaws.{counted, begins-are, tally-ends, lines_end, fill-agree}
 
 -- ---- A name has no number, or a count is above its limit: NAMES.
@@ -77,15 +79,15 @@ abbrev tagged : Text → Text → Bool
 tagged s t = all_present (all_names s t) start (tags s)
 
 module _ (s t : Text) (out : Bytes) where
-  pub unnamed : records_in (tags s) (lines_in t) ≡ none → Gives (records_answer s t out) out out (refusal 22)
+  pub unnamed : records_in (tags s) (lines_in t) ≡ none → Gives (records_answer s t out) out out (Err Names)
   unfolding records_answer
   unnamed e = record { answer-is = rw e; room = refl }
 
-  pub no_line : lines_there (all_names s t) (lines_in t) ≡ false → Gives (records_answer s t out) out out (refusal 22)
+  pub no_line : lines_there (all_names s t) (lines_in t) ≡ false → Gives (records_answer s t out) out out (Err Names)
   no_line e = unnamed (absent (records_in (tags s) (lines_in t)) (judged (tags s) (lines_in t) ∙ and_none (few s) (lined s t) (tagged s t) e))
 
   module _ (from : ℕ) (tags-are : tags s ≡ walk_at s from) (l₀ l₁ : List ℕ) where
-    pub no-tag : ChecksAll (all_names s t) (walk_at s from) l₀ l₁ false → Gives (records_answer s t out) out out (refusal 22)
+    pub no-tag : ChecksAll (all_names s t) (walk_at s from) l₀ l₁ false → Gives (records_answer s t out) out out (Err Names)
     no-tag c =
         unnamed
         (absent (records_in (tags s) (lines_in t)) (judged (tags s) (lines_in t) ∙ and-neither (few s) (lined s t) (tagged s t) (rw (← tags-are) at c.verdict)))
@@ -123,7 +125,7 @@ module _ (s t : Text) (out : Bytes) where
       unfolding starts
       begins-at k = begins-are (tags s) (lines_in t) (of l₀) (of l₁) zeros tallied (of l₂) with-lines k
 
-      pub no_room : length out / 16 < begins (of l₂) 19 → Gives (records_answer s t out) out out (refusal 1)
+      pub no_room : length out / 16 < begins (of l₂) 19 → Gives (records_answer s t out) out out (Err Room)
       unfolding records_answer starts
       no_room h =
           present (records_in (tags s) (lines_in t)) all_there (λ rs e.
@@ -168,7 +170,7 @@ module _ (s t : Text) (out : Bytes) where
           agrees k a b = begun.each-begins k a b ∙ begins-at k
 
           pub all-written : (out₂ : Bytes) → length out₂ ≡ length out₁ → out₂ ≡ fill (all_names s t) start (of l₃) (walk_at s from) out₁
-              → Gives (records_answer s t out) out out₂ (record { reply = 0; place = 0; which = 0; count = total })
+              → Gives (records_answer s t out) out out₂ (Ok total)
           unfolding records_answer starts
           all-written out₂ kept₂ tags-put =
               present (records_in (tags s) (lines_in t)) all_there (λ rs e.

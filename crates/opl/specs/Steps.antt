@@ -1,11 +1,11 @@
 -- The contracts between the parts of the call.
-use Rattle.std.specs.Prelude.{ℕ, ◌+◌, ◌≤◌, ◌≡◌, true, cond, List, eqb, length}
+use Rattle.std.specs.Prelude.{ℕ, ◌≤◌, ◌≡◌, true, cond, List, eqb, length}
 use Rattle.paper_lower.specs.Lists.{Every}
 use Rattle.paper_lower.specs.Checks.{ROOM}
 use Rattle.paper_lower.specs.Records.{Bytes}
 use Rattle.paper_opl.specs.Reading.{Text}
 use Rattle.paper_opl.specs.Tree.{if-found, document_in}
-use Rattle.paper_opl.specs.Naming.{lines, TEXT, NAMES, Answer as Translated, refused, writes}
+use Rattle.paper_opl.specs.Naming.{lines, NAMES, Answer as Translated, refused, writes}
 use Rattle.paper_opl.specs.Walk.{tags, records_in}
 use Rattle.opl_lines.specs.Lines.{lines_in}
 use Rattle.opl_spaces.specs.Spaces.{scratch_words, list_of}
@@ -14,16 +14,7 @@ use Rattle.opl_line_names.specs.Names.{accepted}
 use Rattle.opl_said.specs.Said.{all_names, Held}
 use Rattle.opl_turns.specs.Listing.{Leads}
 use Rattle.opl_turns.specs.Turning.{SmallTag}
-use Rattle.opl.specs.declared.Answer.{Answer}
-use Rattle.opl.specs.Call.{answered}
-
--- A refusal without a place.
-abbrev pub refusal : ℕ → Answer
-refusal reply = record { reply = reply; place = 0; which = 0; count = 0 }
-
--- The answer TEXT, at the byte with index `at` of a text.
-abbrev pub bad_text : ℕ → ℕ → Answer
-bad_text at which = record { reply = TEXT; place = at + 1; which = which; count = 0 }
+use Rattle.opl.specs.Call.{Answer, answered}
 
 -- ---- Two accepted texts. What Ask 4's call accepts, the wider one accepts too.
 

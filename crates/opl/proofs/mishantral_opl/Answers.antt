@@ -1,43 +1,22 @@
 -- `mishantral_opl` meets its contract: the policy text is refused, or `number` answers for the rest.
-use Rattle.opl.proofs.CallLaws.{bad-inside, bad-number, policy-wider, as-wider}
+use Rattle.opl.proofs.CallLaws.{bad-number, policy-wider, as-wider}
 use mathlib.Core.Bool.{false}
 use lib.ListN.{length}
-use native.Mathlib.Omega.{arith}
 use Rattle.opl.proofs.mishantral_opl.Goals as goal
-
-pub bad_policy-requires : goal.bad_policy-requires
-bad_policy-requires c =
-    let args = c.args in
-    let good = c.well_formed in
-    let document = c.document-d in
-    omega (
-      arith,
-      bad-inside false args.policy.now args.lines.now (length args.scratch.now) args.output.now document.result document.ensures
-          c.in-Bad.i c.in-Bad.is,
-      good.0.1,
-    )
 
 pub number-requires : goal.number-requires
 number-requires c =
     let args = c.args in
-    let document = c.document-d in
-    let next = c.in-Next in
-    policy-wider false args.policy.now args.lines.now (length args.scratch.now) args.output.now document.result document.ensures
-    next.field-0 next.is
+    policy-wider false args.policy.now args.lines.now (length args.scratch.now) args.output.now c.in-Ok.field-0 c.in-Ok.ensures
 
-pub returns-in-Bad : goal.returns-in-Bad
-returns-in-Bad c =
+pub returns-in-Err : goal.returns-in-Err
+returns-in-Err c =
     let args = c.args in
-    let document = c.document-d in
-    let d = c.in-Bad in
-    rw c.bad_policy.ensures (bad-number false args.policy.now args.lines.now (length args.scratch.now) args.output.now
-    document.result document.ensures d.i d.is)
+    bad-number false args.policy.now args.lines.now (length args.scratch.now) args.output.now c.in-Err.bad c.in-Err.ensures c.told.result c.told.ensures
 
-pub returns-in-Next : goal.returns-in-Next
-returns-in-Next c =
+pub returns-in-Ok : goal.returns-in-Ok
+returns-in-Ok c =
     let args = c.args in
-    let document = c.document-d in
-    let next = c.in-Next in
     let number = c.number in
-    as-wider false args.policy.now args.lines.now (length args.scratch.now) args.output.now document.result document.ensures
-    next.field-0 next.is number.new.out number.result number.ensures
+    as-wider false args.policy.now args.lines.now (length args.scratch.now) args.output.now c.in-Ok.field-0 c.in-Ok.ensures number.new.out
+    number.result number.ensures
