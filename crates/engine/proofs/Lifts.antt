@@ -8,7 +8,9 @@ use Rattle.paper_lower.specs.Checks.{first, granted}
 use Rattle.paper_lower.specs.Tables.{Lower}
 use Rattle.paper_upper.specs.Orders.{Engine, SameTables, with_lower}
 use Rattle.paper_upper.specs.Requests.{claim_checks, claim_place, claim_next}
-use Rattle.replies.specs.Replies.{Reply, number_of, Outcome, outcome_number, outcome_place, plain}
+use Rattle.replies.specs.Replies.{Reply, number_of, refusal_number, Outcome, outcome_number, outcome_place, placeless, plain}
+use Rattle.std.specs.Prelude.{Err}
+use Rattle.replies.specs.declared.Refusal.{Refusal}
 use Rattle.replies.specs.Done.{Done}
 use Rattle.sessions.specs.Lower.{lower_tables}
 use Rattle.sessions.specs.Both.{Both}
@@ -24,9 +26,9 @@ use Rattle.engine.specs.Buffers.{Buffers, buffers}
 use Rattle.engine.specs.Step.{Step, SoundStep, AnyStep}
 
 -- A reply that is about no rule has place 0. With it, a step on sound links is a step on any content.
-pub any_step : {x x' : Buffers} {d : Record} {r : Reply} {j : Outcome} → j ≡ plain r → ((number_of r ≡ 0 → ⊥) → x' ≡ x)
+pub any_step : {x x' : Buffers} {d : Record} (r : Reply) {j : Outcome} → j ≡ plain r → ((number_of r ≡ 0 → ⊥) → x' ≡ x)
     → (sound_of x.orders ≡ true → SoundStep d x x' j) → AnyStep d x x' j
-any_step {r = r} is kept sound =
+any_step r is kept sound =
     record {
       kept = λ n. kept (λ z. n (ap (λ (y : Outcome). outcome_number y) is ∙ plain_number r ∙ z));
       small = rw (is, plain_place r) (omega arith);
@@ -37,7 +39,7 @@ pub alike : {t u : Engine} → t ≡ u → SameTables t u
 alike {t} e = subst (λ (x : Engine). SameTables t x) e (tables-refl t)
 
 -- Replies that are about no rule: their place is 0.
-module _ {p s o : List ℕ} {reply place : ℕ} {next : Engine} {r : Reply} {j : Outcome} (is : j ≡ plain r) (none : 0 ≡ place) where
+module _ {p s o : List ℕ} {reply place : ℕ} {next : Engine} (r : Reply) {j : Outcome} (is : j ≡ plain r) (none : 0 ≡ place) where
   pub of-both : {p' s' : List ℕ} → Both (λ k l. engine_tables k l o) reply next p s p' s' r →
       Step (engine_tables p s o) (engine_tables p' s' o) reply place next (buffers p s o) (buffers p' s' o) j
   of-both d =
@@ -80,9 +82,9 @@ same : (t : Engine) (k : ℕ) → t ≡ granted k t t
 same t zero = refl
 same t (suc k) = refl
 
-pub of_none : {t : Engine} {x : Buffers} {reply place : ℕ} {r : Reply} {j : Outcome} → j ≡ plain r → 0 ≡ place → number_of r ≡ reply
+pub of_none : {t : Engine} {x : Buffers} {reply place : ℕ} (r : Reply) {j : Outcome} → j ≡ plain r → 0 ≡ place → number_of r ≡ reply
     → Step t t reply place t x x j
-of_none {t} {x} {reply} {r = r} is none e =
+of_none {t} {x} {reply} r is none e =
     rw is (record { replies = plain_number r ∙ e; places = plain_place r ∙ none; tables = alike (same t reply); kept = λ h. refl })
 
 raise : (o : List ℕ) (k : ℕ) (next old : Lower) {new : Lower} → new ≡ granted k next old →
@@ -91,13 +93,17 @@ raise : (o : List ℕ) (k : ℕ) (next old : Lower) {new : Lower} → new ≡ gr
 raise o zero next old e = ap (λ (x : Lower). record { lower = x; orders = orders_of o }) e
 raise o (suc k) next old e = ap (λ (x : Lower). record { lower = x; orders = orders_of o }) e
 
-pub of-lower : {p s o p' s' : List ℕ} {reply place : ℕ} {next : Lower} {r : Reply} {j : Outcome} → j ≡ plain r → 0 ≡ place
+pub of-lower : {p s o p' s' : List ℕ} {reply place : ℕ} {next : Lower} (r : Reply) {j : Outcome} → j ≡ plain r → 0 ≡ place
     → Stepped reply next p s p' s' r →
     Step (engine_tables p s o) (engine_tables p' s' o) reply place (with_lower (engine_tables p s o) next) (buffers p s o) (buffers p' s' o) j
-of-lower {p} {s} {o} {p'} {s'} {reply} {next = next} {r = r} is none d =
+of-lower {p} {s} {o} {p'} {s'} {reply} {next = next} r is none d =
     rw is (record {
       replies = plain_number r ∙ d.replies;
       places = plain_place r ∙ none;
       tables = alike (raise o reply next (lower_tables p s) d.tables);
       kept = λ h. let k = d.kept (λ z. h (plain_number r ∙ z)) in λ i. buffers (k.0 i) (k.1 i) o;
     })
+
+-- A refusal that is about no place changes nothing.
+pub of-refusal : {t : Engine} {x : Buffers} {e : Refusal} {place : ℕ} → 0 ≡ place → Step t t (refusal_number e) place t x x (Err (placeless e))
+of-refusal {t} {x} {e} none = record { replies = refl; places = none; tables = alike (same t (refusal_number e)); kept = λ h. refl }

@@ -13,6 +13,7 @@ use Rattle.paper_lower.specs.Sessions.{check_checks, session_kinds, lower_kinds}
 use Rattle.paper_upper.specs.Orders.{Engine}
 use Rattle.paper_upper.specs.Requests.{upper_kinds}
 use Rattle.paper_upper.specs.Engine.{widened, shared_kinds, request_kinds, request, place_of}
+use Rattle.std.specs.Prelude.{Option, Some, None}
 use Rattle.replies.specs.Replies.{Reply, number_of, plain}
 use Rattle.records.specs.Reading.{paper_of, Decoded}
 use Rattle.records.specs.Calls.{settled}
@@ -23,7 +24,8 @@ use Rattle.records.proofs.Checking.{check-fields, check-passes}
 use Rattle.sessions.specs.Lower.{lower_tables}
 use Rattle.engine.specs.Buffers.{Buffers, product_of, tables_of, fit as fitting}
 use Rattle.engine.specs.Step.{Step, StepOf, AnyStep}
-use Rattle.engine.specs.Settling.{SettledRequest}
+use Rattle.session_subjects.specs.Promises.{QuickJudged}
+use Rattle.engine.specs.Settling.{SettledRequest, QuickRequest}
 use Rattle.engine.proofs.Lifts.{any_step, of_none}
 use Rattle.engine.proofs.PlaceLaws.{no-claim}
 use Rattle.engine.proofs.EmptyLaws.{sound-step}
@@ -49,10 +51,10 @@ module _ (x : Buffers) (d : Record) (r : Reply) (kind : d.kind ≡ 56)
       let e : number_of r ≡ reply = told ∙ sym (row-checks t p) ∙ ap (λ (k : ℕ). first ((chosen request_kinds k).checks t p)) (sym kind) in
       let n : t ≡ (chosen request_kinds d.kind).next t p = sym (row_next t p) ∙ ap (λ (k : ℕ). (chosen request_kinds k).next t p) (sym kind) in
       subst (λ (u : Engine). Step t t reply (place_of t p reply) u x x (plain r)) n
-      (of_none refl (no-claim t p reply (λ q. let z : ⊥ = omega arith in z)) e)
+      (of_none r refl (no-claim t p reply (λ q. let z : ⊥ = omega arith in z)) e)
 
   quick-step : AnyStep d x x (plain r)
-  quick-step = any_step refl (λ _. refl) (λ s. (checks-step, s))
+  quick-step = any_step r refl (λ _. refl) (λ s. (checks-step, s))
 
 -- If r is the reply that the rules define for the decoded check, then r without a place is the result of a settled request that changes nothing.
 pub quick-request : (bytes : Bytes) (x : Buffers) (d : Record) (r : Reply) → fitting x ≡ true → is_check bytes ≡ true → Decoded bytes d
@@ -65,3 +67,9 @@ quick-request bytes x d r fit check is told =
     (λ g s.
     answered fit (passed-answer request_forms bytes (check-passes bytes check) is request_kinds (tables_of x)) is.reads
     (sound-step d x x s g) (λ _. g.1) l)
+
+-- The same of what `quick` returns: without a reply it promises nothing.
+pub quick-any : (bytes : Bytes) (x : Buffers) (d : Record) (r : Option Reply) → fitting x ≡ true → is_check bytes ≡ true → Decoded bytes d
+    → QuickJudged x.policy x.sessions d.a d.b d.c r → QuickRequest bytes x r
+quick-any bytes x d (Some r) fit check is told = quick-request bytes x d r fit check is told
+quick-any bytes x d None fit check is told = tt

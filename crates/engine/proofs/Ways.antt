@@ -4,7 +4,7 @@ use mathlib.Core.Bool.{Bool, true, false, not, ◌&&◌, true≢false}
 use mathlib.Core.List.{List}
 use mathlib.Core.Path.{◌≡◌, refl, sym, ap, subst, ◌∙◌}
 use native.Mathlib.Omega.{arith}
-use borrow.Author.Tests.{eq-eqb, eqb-true, not-true, not-false}
+use borrow.Author.Tests.{eq-eqb, ne_eqb, eqb-true, not-true, not-false}
 use lib.Dec.{eqb}
 use lib.ListN.{length}
 use Rattle.paper_lower.specs.Checks.{granted}
@@ -50,6 +50,23 @@ fit-yes e h = sym e ∙ not-false _ h
 
 pub fit-no : {b c : Bool} → b ≡ c → not b ≡ true → c ≡ false
 fit-no e h = sym e ∙ not-true _ h
+
+-- A buffer of another length, and all three of their fixed lengths.
+and-false : (b : Bool) → b && false ≡ false
+and-false true = refl
+and-false false = refl
+
+pub policy-unfit : (p s o : List ℕ) → (length p ≡ policy_words → ⊥) → fit (buffers p s o) ≡ false
+policy-unfit p s o h = rw (ne_eqb (length p) policy_words h)
+
+pub sessions-unfit : (p s o : List ℕ) → (length s ≡ sessions_words → ⊥) → fit (buffers p s o) ≡ false
+sessions-unfit p s o h = rw (ne_eqb (length s) sessions_words h, and-false (eqb (length p) policy_words))
+
+pub orders-unfit : (p s o : List ℕ) → (length o ≡ orders_words → ⊥) → fit (buffers p s o) ≡ false
+orders-unfit p s o h = rw (ne_eqb (length o) orders_words h) (and-false (eqb (length p) policy_words && eqb (length s) sessions_words))
+
+pub fits : (p s o : List ℕ) → length p ≡ policy_words → length s ≡ sessions_words → length o ≡ orders_words → fit (buffers p s o) ≡ true
+fits p s o a b c = rw (eq-eqb _ _ a, eq-eqb _ _ b, eq-eqb _ _ c)
 
 module _ (x : Buffers) where
   pub fit-lengths : fit x ≡ true → (length x.policy ≡ policy_words) × ((length x.sessions ≡ sessions_words) × (length x.orders ≡ orders_words))

@@ -90,11 +90,15 @@ pub fn request(
 ) -> Outcome
     ensures { Requested bytes.now (buffers policy.old sessions.old orders.old) (buffers policy.new sessions.new orders.new) result }
 {
-    let p = policy.as_mut_array::<POLICY_WORDS>().ok_or(Refusal::Room)?;
-    let s = sessions
-        .as_mut_array::<SESSIONS_WORDS>()
-        .ok_or(Refusal::Room)?;
-    let o = orders.as_mut_array::<ORDERS_WORDS>().ok_or(Refusal::Room)?;
+    let Some(p) = policy.as_mut_array::<POLICY_WORDS>() else {
+        return Err(Refused::from(Refusal::Room));
+    };
+    let Some(s) = sessions.as_mut_array::<SESSIONS_WORDS>() else {
+        return Err(Refused::from(Refusal::Room));
+    };
+    let Some(o) = orders.as_mut_array::<ORDERS_WORDS>() else {
+        return Err(Refused::from(Refusal::Room));
+    };
     records::judge(Call::Request, bytes)?;
     act(records::decode(bytes), p, s, o)
 }
@@ -103,11 +107,15 @@ pub fn request(
 pub fn settle(policy: &mut [u64], sessions: &mut [u64], orders: &mut [u64]) -> Reply
     ensures { Settled (buffers policy.old sessions.old orders.old) (buffers policy.new sessions.new orders.new) result }
 {
-    let p = policy.as_mut_array::<POLICY_WORDS>().ok_or(Refusal::Room)?;
-    let s = sessions
-        .as_mut_array::<SESSIONS_WORDS>()
-        .ok_or(Refusal::Room)?;
-    let o = orders.as_mut_array::<ORDERS_WORDS>().ok_or(Refusal::Room)?;
+    let Some(p) = policy.as_mut_array::<POLICY_WORDS>() else {
+        return Err(Refusal::Room);
+    };
+    let Some(s) = sessions.as_mut_array::<SESSIONS_WORDS>() else {
+        return Err(Refusal::Room);
+    };
+    let Some(o) = orders.as_mut_array::<ORDERS_WORDS>() else {
+        return Err(Refusal::Room);
+    };
     if order_links::is_sound(o) {
         return Ok(());
     }
@@ -127,11 +135,15 @@ pub fn settled_request(
 ) -> Outcome
     ensures { SettledRequest bytes.now (buffers policy.old sessions.old orders.old) (buffers policy.new sessions.new orders.new) result }
 {
-    let p = policy.as_mut_array::<POLICY_WORDS>().ok_or(Refusal::Room)?;
-    let s = sessions
-        .as_mut_array::<SESSIONS_WORDS>()
-        .ok_or(Refusal::Room)?;
-    let o = orders.as_mut_array::<ORDERS_WORDS>().ok_or(Refusal::Room)?;
+    let Some(p) = policy.as_mut_array::<POLICY_WORDS>() else {
+        return Err(Refused::from(Refusal::Room));
+    };
+    let Some(s) = sessions.as_mut_array::<SESSIONS_WORDS>() else {
+        return Err(Refused::from(Refusal::Room));
+    };
+    let Some(o) = orders.as_mut_array::<ORDERS_WORDS>() else {
+        return Err(Refused::from(Refusal::Room));
+    };
     records::judge(Call::Request, bytes)?;
     step(records::decode(bytes), p, s, o)
 }
@@ -154,12 +166,17 @@ pub fn quick(bytes: &[u8], policy: &[u64], sessions: &[u64], orders: &[u64]) -> 
 pub fn load(bytes: &[u8], policy: &mut [u64], sessions: &mut [u64], orders: &mut [u64]) -> Outcome
     ensures { LoadDone bytes.now (buffers policy.old sessions.old orders.old) (buffers policy.new sessions.new orders.new) (outcome_reply result) (outcome_place result) }
 {
-    if !fit(policy.len(), sessions.len(), orders.len()) {
+    let Some(p) = policy.as_mut_array::<POLICY_WORDS>() else {
         return Err(Refused::from(Refusal::Room));
-    }
-    let o = orders.as_mut_array::<ORDERS_WORDS>().ok_or(Refusal::Room)?;
+    };
+    let Some(s) = sessions.as_mut_array::<SESSIONS_WORDS>() else {
+        return Err(Refused::from(Refusal::Room));
+    };
+    let Some(o) = orders.as_mut_array::<ORDERS_WORDS>() else {
+        return Err(Refused::from(Refusal::Room));
+    };
     order_entries::clear(o);
-    lower::load(bytes, policy, sessions)
+    lower::load(bytes, p, s)
 }
 
 // ---- For C and Rust. The answer is one number: the reply + 256 times the place.

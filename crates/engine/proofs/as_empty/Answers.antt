@@ -8,8 +8,8 @@ pub returns-then-r : goal.returns-then-r
 returns-then-r c =
     let pre = c.requires in
     let z = c.args in
-    unknown-step z.r (buffers z.p.now z.s.now z.o.now) pre.1
-    (all-unknown (paper_of z.r) pre.0.known (other-kind z.r.kind z.r.m c.if-r.true))
+    rw c.from.ensures (unknown-step z.r (buffers z.p.now z.s.now z.o.now) pre.1
+    (all-unknown (paper_of z.r) pre.0.known (other-kind z.r.kind z.r.m c.if-r.true)))
 
 pub returns : goal.returns
 returns c =

@@ -1,26 +1,25 @@
--- `load` meets its contract: buffers of a wrong length get ROOM; otherwise the orders are emptied and the lower part loads the policy.
-use mathlib.Core.Bool.{not}
-use mathlib.Core.Path.{ap}
-use Rattle.engine.specs.Buffers.{buffers}
-use Rattle.engine.proofs.Ways.{fit-yes, fit-no, same-lengths, fit-lengths, no-load, loaded}
+-- `load` meets its contract: a buffer of a wrong length gets ROOM; otherwise the orders are emptied and the lower part loads the policy.
 use borrow.Author.Rules.{rules}
+use Rattle.engine.proofs.Ways.{policy-unfit, sessions-unfit, orders-unfit, fits, same-lengths, no-load, loaded}
 use Rattle.engine.proofs.load.Goals as goal
 
-pub returns-then-not-fit : goal.returns-then-not-fit
-returns-then-not-fit c =
-    let args = c.args in
-    no-load args.bytes.now (buffers args.policy.now args.sessions.now args.orders.now) (fit-no c.fit.ensures (ap not c.if-not-fit.true))
+pub returns-in_default : goal.returns-in_default
+returns-in_default c = rw c.from.ensures (no-load _ _ (policy-unfit _ _ _ c.in_default.ensures.cases))
 
-pub clear-requires : goal.clear-requires
-clear-requires c =
-    let args = c.args in
-    (fit-lengths (buffers args.policy.now args.sessions.now args.orders.now) (fit-yes c.fit.ensures (ap not c.if-not-fit.false))).1.1
+pub returns-in_default-as_mut_array : goal.returns-in_default-as_mut_array
+returns-in_default-as_mut_array c =
+    rw (c.from-in_default-as_mut_array.ensures, c.in-Some.ensures.cases.same)
+    (no-load _ _ (sessions-unfit _ _ _ c.in_default-as_mut_array.ensures.cases))
+
+pub returns-in_default-as_mut_array-2 : goal.returns-in_default-as_mut_array-2
+returns-in_default-as_mut_array-2 c =
+    rw (c.from-in_default-as_mut_array-2.ensures, c.in-Some.ensures.cases.same, c.in-Some-as_mut_array.ensures.cases.same)
+    (no-load _ _ (orders-unfit c.args.policy.now c.args.sessions.now c.args.orders.now c.in_default-as_mut_array-2.ensures.cases))
 
 pub returns : goal.returns
 returns c =
-    let measured = c.fit in
-    let if1 = c.if-not-fit in
-    let fit = fit-yes measured.ensures (ap not if1.false) in
-    let clear = c.clear in
-    let load = c.load in
-    loaded fit clear.ensures load.ensures (same-lengths (search rules) (search rules) (search rules))
+    let p = c.in-Some.ensures.cases in
+    let s = c.in-Some-as_mut_array.ensures.cases in
+    let o = c.in-Some-as_mut_array-2.ensures.cases in
+    let loads = rw (p.same, s.same) at c.load.ensures in
+    loaded (fits _ _ _ p.long s.long o.long) c.clear.ensures loads (same-lengths (search rules) (search rules) (search rules))

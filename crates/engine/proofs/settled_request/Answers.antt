@@ -1,79 +1,69 @@
 -- `settled_request` meets its contract: as `request`, but it goes to `step` without checking the links.
-use mathlib.Core.Bool.{not}
-use mathlib.Core.Path.{refl, ap}
+use mathlib.Core.Path.{refl}
+use borrow.Author.Rules.{rules}
+use native.Mathlib.Omega.{arith}
+use Rattle.std.proofs.lemmas.Result.{err_from_is_err_and}
 use Rattle.paper_lower.specs.Records.{decode}
 use Rattle.paper_lower.specs.Forms.{request_forms}
 use Rattle.paper_upper.specs.Engine.{request_kinds, request}
 use Rattle.records.specs.Calls.{settled}
 use Rattle.records.proofs.Passing.{refused-answer, sized, passed, passed-answer}
-use Rattle.order_rules.proofs.PlaceLaws.{plain-place}
+use Rattle.replies.proofs.ReplyLaws.{not-granted}
 use Rattle.engine.specs.Buffers.{buffers, tables_of}
-use Rattle.engine.proofs.Lifts.{of_none}
+use Rattle.engine.proofs.Lifts.{of-refusal}
 use Rattle.engine.proofs.PlaceLaws.{no-form}
 use Rattle.engine.proofs.EmptyLaws.{sound-step}
-use Rattle.engine.proofs.Ways.{fit-yes, fit-no, same-lengths, fit-lengths, answered, not-granted}
+use Rattle.engine.proofs.Ways.{policy-unfit, sessions-unfit, orders-unfit, fits, same-lengths, answered}
 use Rattle.engine.proofs.SettleLaws.{no-settled-room, settled-refused, settled-step}
-use borrow.Author.Rules.{rules}
 use Rattle.engine.proofs.settled_request.Goals as goal
 
-pub returns-then-not-fit : goal.returns-then-not-fit
-returns-then-not-fit c =
-    let z = c.args in
-    no-settled-room z.bytes.now (buffers z.policy.now z.sessions.now z.orders.now) c.plain.ensures
-    (fit-no c.fit.ensures (ap not c.if-not-fit.true))
+pub returns-in_default : goal.returns-in_default
+returns-in_default c = rw c.from.ensures (no-settled-room _ _ (policy-unfit _ _ _ c.in_default.ensures.cases))
 
-pub returns-then-not-accepted : goal.returns-then-not-accepted
+pub returns-in_default-as_mut_array : goal.returns-in_default-as_mut_array
+returns-in_default-as_mut_array c =
+    rw (c.from-in_default-as_mut_array.ensures, c.in-Some.ensures.cases.same)
+    (no-settled-room _ _ (sessions-unfit _ _ _ c.in_default-as_mut_array.ensures.cases))
+
+pub returns-in_default-as_mut_array-2 : goal.returns-in_default-as_mut_array-2
+returns-in_default-as_mut_array-2 c =
+    rw (c.from-in_default-as_mut_array-2.ensures, c.in-Some.ensures.cases.same, c.in-Some-as_mut_array.ensures.cases.same)
+    (no-settled-room _ _ (orders-unfit c.args.policy.now c.args.sessions.now c.args.orders.now c.in_default-as_mut_array-2.ensures.cases))
+
+pub returns-in_err-judge : goal.returns-in_err-judge
 unfolding request
-returns-then-not-accepted c =
-    let fit = fit-yes c.fit.ensures (ap not c.if-not-fit.false) in
-    let judge = c.judge-r in
-    let accepted = c.accepted in
+returns-in_err-judge c =
     let z = c.args in
-    let bytes = z.bytes.now in
+    let p = c.in-Some.ensures.cases in
+    let s = c.in-Some-as_mut_array.ensures.cases in
+    let o = c.in-Some-as_mut_array-2.ensures.cases in
     let x = buffers z.policy.now z.sessions.now z.orders.now in
-    settled-refused bytes x fit (plain-place c.plain-then-not-accepted.ensures)
-    (answered fit
-    (refused-answer request_forms bytes request_kinds (tables_of x) judge.result judge.ensures accepted.ensures (ap not c.if-not-accepted.true)) refl
-    (of_none c.plain-then-not-accepted.ensures (no-form request_forms bytes (tables_of x) (decode bytes) judge.ensures) refl)
-    (not-granted c.plain-then-not-accepted.ensures accepted.ensures (ap not c.if-not-accepted.true)) (same-lengths refl refl refl))
+    let f = fits _ _ _ p.long s.long o.long in
+    let e = err_from_is_err_and c.from_residual.result c.from_residual.ensures.1 in
+    rw (e.1, e.2, p.same, s.same, o.same)
+    (settled-refused z.bytes.now x f (omega arith)
+    (answered f (refused-answer request_forms z.bytes.now request_kinds (tables_of x) _ c.in_err-judge.ensures) refl
+    (of-refusal (no-form request_forms z.bytes.now (tables_of x) (decode z.bytes.now) c.in_err-judge.ensures)) (λ n. absurd (not-granted _ n))
+    (same-lengths refl refl refl)))
 
 pub decode-requires : goal.decode-requires
-decode-requires c =
-    let args = c.args in
-    let judge = c.judge-r in
-    sized request_forms args.bytes.now judge.result judge.ensures c.accepted.ensures (ap not c.if-not-accepted.false)
+decode-requires c = sized request_forms c.args.bytes.now c.in_ok-judge.ensures
 
 pub step-requires : goal.step-requires
-step-requires c =
-    let args = c.args in
-    let measured = c.fit in
-    let if1 = c.if-not-fit in
-    let fit = fit-yes measured.ensures (ap not if1.false) in
-    let judge = c.judge-r in
-    let accepted = c.accepted in
-    let if2 = c.if-not-accepted in
-    let decode = c.decode in (
-      fit-lengths (buffers args.policy.now args.sessions.now args.orders.now) fit,
-      passed request_forms args.bytes.now judge.result judge.ensures accepted.ensures (ap not if2.false) decode.ensures,
-    )
+step-requires c = passed request_forms c.args.bytes.now c.in_ok-judge.ensures c.decode.ensures
 
 pub returns : goal.returns
 unfolding request settled
 returns c =
-    let measured = c.fit in
-    let if1 = c.if-not-fit in
-    let fit = fit-yes measured.ensures (ap not if1.false) in
-    let judge = c.judge-r in
-    let accepted = c.accepted in
-    let if2 = c.if-not-accepted in
-    let decode = c.decode in
-    let step = c.step in
     let z = c.args in
-    let bytes = z.bytes.now in
+    let p = c.in-Some.ensures.cases in
+    let s = c.in-Some-as_mut_array.ensures.cases in
+    let o = c.in-Some-as_mut_array-2.ensures.cases in
     let x = buffers z.policy.now z.sessions.now z.orders.now in
+    let f = fits _ _ _ p.long s.long o.long in
     let l = same-lengths (search rules) (search rules) (search rules) in
-    settled-step bytes x _ decode.result fit l step.ensures
-    (λ d s.
-    answered fit
-    (passed-answer request_forms bytes judge.result judge.ensures accepted.ensures (ap not if2.false) decode.ensures request_kinds (tables_of x))
-    decode.ensures.reads (sound-step decode.result x _ s d) (λ _. d.1) l)
+    let step = rw (p.same, s.same, o.same) at c.step.ensures in
+    settled-step z.bytes.now x _ c.decode.result f l step
+    (λ d g.
+    answered f (passed-answer request_forms z.bytes.now c.in_ok-judge.ensures c.decode.ensures request_kinds (tables_of x))
+    c.decode.ensures.reads (sound-step c.decode.result x _ g d) (λ _. d.1) l)

@@ -1,7 +1,5 @@
 -- `step` meets its contract: each kind of the upper part is a step of the three buffers; every other kind is a step of the lower part.
 use Prim.Native.Nat.{ℕ}
-use mathlib.Core.List.{List}
-use lib.ListN.{length}
 use mathlib.Core.Path.{◌≡◌, refl}
 use lib.Dec.{T, ltb}
 use Rattle.paper_lower.specs.Forms.{request_forms}
@@ -14,29 +12,20 @@ use Rattle.policy.specs.Layout.{policy_words}
 use Rattle.sessions.specs.Reading.{sessions_words}
 use Rattle.order_links.specs.Chains.{orders_words}
 use Rattle.records.proofs.Passing.{below}
-use Rattle.order_claims.specs.Promises.{InLimits}
+use Rattle.order_entries.specs.Acts.{InLimits}
 use Rattle.engine.specs.Buffers.{buffers}
 use Rattle.engine.proofs.Lifts.{any_step, of-both, of-sessions, of-orders, of-claim, of_none, of-lower}
 use Rattle.engine.proofs.PlaceLaws.{no-claim}
 use Rattle.engine.proofs.LowerKinds.{lower-row, lower-limits, no-claim-number}
 use Rattle.engine.proofs.step.Goals as goal
 
--- ---- Kinds 50, 51, 52 and 57: the lengths hold, and subject, order and task are within their limits.
-of-subject : {p s o : List ℕ} {k : ℕ} {r : Record} → length p ≡ policy_words → length s ≡ sessions_words → length o ≡ orders_words → Limits request_forms r
-    → r.kind ≡ k → T (ltb (limit_a request_forms k) 128) → T (ltb (limit_b request_forms k) 64) → T (ltb (limit_c request_forms k) 64)
-    → InLimits p s o r.a r.b r.c
-of-subject p s o l key a b c = (
-  p,
-  (
-    s,
-    (
-      o,
-      (
-        below (limit_a request_forms) l.a key 128 a,
-        (below (limit_b request_forms) l.b key 64 b, below (limit_c request_forms) l.c key 64 c),
-      ),
-    ),
-  ),
+-- ---- Kinds 50, 51, 52 and 57: subject, order and task are within their limits.
+of-subject : {k : ℕ} {r : Record} → Limits request_forms r → r.kind ≡ k
+    → T (ltb (limit_a request_forms k) 128) → T (ltb (limit_b request_forms k) 64) → T (ltb (limit_c request_forms k) 64)
+    → InLimits r.b r.c r.a
+of-subject l key a b c = (
+  below (limit_b request_forms) l.b key 64 b,
+  (below (limit_c request_forms) l.c key 64 c, below (limit_a request_forms) l.a key 128 a),
 )
 
 pub delete-requires : goal.delete-requires
@@ -70,28 +59,28 @@ unfolding limits_open
 claim-requires c =
     let pre = c.requires in
     let match = c.in-50 in
-    of-subject c.told-p c.told-s c.told-o pre match.is tt tt tt
+    of-subject pre match.is tt tt tt
 
 pub release-requires : goal.release-requires
 unfolding limits_open
 release-requires c =
     let pre = c.requires in
     let match = c.in-51 in
-    of-subject c.told-p c.told-s c.told-o pre match.is tt tt tt
+    of-subject pre match.is tt tt tt
 
 pub finish-requires : goal.finish-requires
 unfolding limits_open
 finish-requires c =
     let pre = c.requires in
     let match = c.in-52 in
-    of-subject c.told-p c.told-s c.told-o pre match.is tt tt tt
+    of-subject pre match.is tt tt tt
 
 pub task_check_reply-requires : goal.task_check_reply-requires
 unfolding limits_open
 task_check_reply-requires c =
     let pre = c.requires in
     let match = c.in-57 in
-    (of-subject c.told-p c.told-s c.told-o pre match.is tt tt tt, below (limit_m request_forms) pre.m match.is 4294967296 tt)
+    (of-subject pre match.is tt tt tt, below (limit_m request_forms) pre.m match.is 4294967296 tt)
 
 pub figures_reply-requires : goal.figures_reply-requires
 unfolding limits_open
@@ -116,8 +105,8 @@ returns-in-33 c =
     let args = c.args in
     let match = c.in-33 in
     let delete = c.delete in
-    any_step c.plain.ensures (λ n. λ i. buffers ((delete.ensures.kept n).0 i) ((delete.ensures.kept n).1 i) args.o.now)
-    (λ w. rw match.is (of-both c.plain.ensures refl (delete.ensures.sound w), w))
+    any_step _ c.plain.ensures (λ n. λ i. buffers ((delete.ensures.kept n).0 i) ((delete.ensures.kept n).1 i) args.o.now)
+    (λ w. rw match.is (of-both _ c.plain.ensures refl (delete.ensures.sound w), w))
 
 pub returns-in-41 : goal.returns-in-41
 unfolding chosen request_kinds upper_kinds place_of
@@ -125,8 +114,8 @@ returns-in-41 c =
     let args = c.args in
     let match = c.in-41 in
     let destroy = c.destroy in
-    any_step c.plain-in-41.ensures (λ n. λ i. buffers args.p.now (destroy.ensures.kept n i) args.o.now)
-    (λ w. rw match.is (of-sessions c.plain-in-41.ensures refl (destroy.ensures.sound w args.p.now), w))
+    any_step _ c.plain-in-41.ensures (λ n. λ i. buffers args.p.now (destroy.ensures.kept n i) args.o.now)
+    (λ w. rw match.is (of-sessions _ c.plain-in-41.ensures refl (destroy.ensures.sound w args.p.now), w))
 
 pub returns-in-48 : goal.returns-in-48
 unfolding chosen request_kinds upper_kinds place_of
@@ -134,8 +123,8 @@ returns-in-48 c =
     let args = c.args in
     let match = c.in-48 in
     let open_order = c.open_order in
-    any_step c.plain-in-48.ensures (λ n. λ i. buffers args.p.now args.s.now (open_order.ensures.kept n i))
-    (λ w. rw match.is (of-orders c.plain-in-48.ensures refl ((open_order.ensures.sound w).0 args.s.now), (open_order.ensures.sound w).1))
+    any_step _ c.plain-in-48.ensures (λ n. λ i. buffers args.p.now args.s.now (open_order.ensures.kept n i))
+    (λ w. rw match.is (of-orders _ c.plain-in-48.ensures refl ((open_order.ensures.sound w).0 args.s.now), (open_order.ensures.sound w).1))
 
 pub returns-in-49 : goal.returns-in-49
 unfolding chosen request_kinds upper_kinds place_of
@@ -143,8 +132,8 @@ returns-in-49 c =
     let args = c.args in
     let match = c.in-49 in
     let end-order = c.end_order in
-    any_step c.plain-in-49.ensures (λ n. λ i. buffers args.p.now args.s.now (end-order.ensures.kept n i))
-    (λ w. rw match.is (of-orders c.plain-in-49.ensures refl ((end-order.ensures.sound w).0 args.p.now args.s.now), (end-order.ensures.sound w).1))
+    any_step _ c.plain-in-49.ensures (λ n. λ i. buffers args.p.now args.s.now (end-order.ensures.kept n i))
+    (λ w. rw match.is (of-orders _ c.plain-in-49.ensures refl ((end-order.ensures.sound w).0 args.p.now args.s.now), (end-order.ensures.sound w).1))
 
 pub returns-in-50 : goal.returns-in-50
 unfolding chosen request_kinds upper_kinds place_of
@@ -164,8 +153,8 @@ returns-in-51 c =
     let args = c.args in
     let match = c.in-51 in
     let release = c.release in
-    any_step c.plain-in-51.ensures (λ n. λ i. buffers args.p.now args.s.now (release.ensures.kept n i))
-    (λ w. rw match.is (of-orders c.plain-in-51.ensures refl (release.ensures.sound w).0, (release.ensures.sound w).1))
+    any_step _ c.plain-in-51.ensures (λ n. λ i. buffers args.p.now args.s.now (release.ensures.kept n i))
+    (λ w. rw match.is (of-orders _ c.plain-in-51.ensures refl (release.ensures.sound w).0, (release.ensures.sound w).1))
 
 pub returns-in-52 : goal.returns-in-52
 unfolding chosen request_kinds upper_kinds place_of
@@ -173,30 +162,30 @@ returns-in-52 c =
     let args = c.args in
     let match = c.in-52 in
     let finish = c.finish in
-    any_step c.plain-in-52.ensures (λ n. λ i. buffers args.p.now args.s.now (finish.ensures.kept n i))
-    (λ w. rw match.is (of-orders c.plain-in-52.ensures refl (finish.ensures.sound w).0, (finish.ensures.sound w).1))
+    any_step _ c.plain-in-52.ensures (λ n. λ i. buffers args.p.now args.s.now (finish.ensures.kept n i))
+    (λ w. rw match.is (of-orders _ c.plain-in-52.ensures refl (finish.ensures.sound w).0, (finish.ensures.sound w).1))
 
 pub returns-in-57 : goal.returns-in-57
 unfolding chosen request_kinds upper_kinds place_of
 returns-in-57 c =
     let match = c.in-57 in
-    any_step c.plain-in-57.ensures (λ _. refl)
-    (λ w. rw match.is (of_none c.plain-in-57.ensures refl (c.task_check_reply.ensures w), w))
+    any_step _ c.plain-in-57.ensures (λ _. refl)
+    (λ w. rw match.is (of_none _ c.plain-in-57.ensures refl (c.task_check_reply.ensures w), w))
 
 pub returns-in-58 : goal.returns-in-58
 unfolding chosen request_kinds upper_kinds place_of
 returns-in-58 c =
     let args = c.args in
     let match = c.in-58 in
-    any_step c.plain-in-58.ensures (λ _. refl)
-    (λ w. rw match.is (of_none c.plain-in-58.ensures refl (c.figures_reply.ensures args.p.now args.s.now), w))
+    any_step _ c.plain-in-58.ensures (λ _. refl)
+    (λ w. rw match.is (of_none _ c.plain-in-58.ensures refl (c.figures_reply.ensures args.p.now args.s.now), w))
 
 pub returns-in-60 : goal.returns-in-60
 unfolding chosen request_kinds upper_kinds place_of
 returns-in-60 c =
     let match = c.in-60 in
-    any_step c.plain-in-60.ensures (λ _. refl)
-    (λ w. rw match.is (of_none c.plain-in-60.ensures refl c.judge.ensures, w))
+    any_step _ c.plain-in-60.ensures (λ _. refl)
+    (λ w. rw match.is (of_none _ c.plain-in-60.ensures refl c.judge.ensures, w))
 
 pub returns-in_default : goal.returns-in_default
 unfolding widened
@@ -204,5 +193,5 @@ returns-in_default c =
     let args = c.args in
     let match = c.in_default in
     let step = c.step in
-    any_step c.plain-in_default.ensures (λ n. λ i. buffers ((step.ensures.kept n).0 i) ((step.ensures.kept n).1 i) args.o.now)
-    (λ w. rw (lower-row match.in_default-own.rest) (of-lower c.plain-in_default.ensures (no-claim _ _ _ (no-claim-number match.in_default-own.rest)) step.ensures, w))
+    any_step _ c.plain-in_default.ensures (λ n. λ i. buffers ((step.ensures.kept n).0 i) ((step.ensures.kept n).1 i) args.o.now)
+    (λ w. rw (lower-row match.in_default-own.rest) (of-lower _ c.plain-in_default.ensures (no-claim _ _ _ (no-claim-number match.in_default-own.rest)) step.ensures, w))
