@@ -134,7 +134,7 @@ unlooked {j = j} d =
 
 unlooked-number : {bytes : Bytes} {x y : Buffers} {n : ℕ} → SettledExported bytes x y n → Unlooked x y (n % 256) (n / 256)
 unlooked-number {n = n} d =
-    let l = listed-reply d.0.reply in
+    let l = listed-reply (outcome_reply d.0) in
     rw (first_byte _ _ n l d.1, rest_of _ _ n l d.1) (unlooked d.2)
 
 chain-sound : {x z : Buffers} {said : List Placed} → Requests x said z → sound_of x.orders ≡ true → sound_of z.orders ≡ true
