@@ -164,7 +164,7 @@ module _ (bytes : Bytes) (old : List ℕ) (x : Buffers) where
     pub words : (length x.policy ≡ policy_words) × (length x.orders ≡ orders_words)
     words = ((fit-lengths x fitting).0, (fit-lengths x fitting).1.1)
 
-    room : length old ≡ answer_words
+    pub room : length old ≡ answer_words
     room = eqb-true _ _ (not-false _ none.1.0)
 
     asked : asks (decode bytes).kind ≡ true

@@ -106,10 +106,11 @@ pub fn question(
     let answer = answer.as_mut_array::<ANSWER_WORDS>().ok_or(Refusal::Room)?;
     let p = policy.as_array::<POLICY_WORDS>().ok_or(Refusal::Room)?;
     let o = orders.as_array::<ORDERS_WORDS>().ok_or(Refusal::Room)?;
+    let r = records::decode(bytes);
     if !order_links::is_sound(o) {
         return Err(Refusal::Unknown);
     }
-    answer_to(records::decode(bytes), answer, p, o)
+    answer_to(r, answer, p, o)
 }
 
 // `question` for C and Rust: the reply's number.
