@@ -101,10 +101,8 @@ pub fn pile(
     ensures { PileDone bytes.now answers.old at answers.new (buffers policy.old sessions.old orders.old) (buffers policy.new sessions.new orders.new) (number_of result) }
 {
     judge(bytes, answers, at, policy, sessions, orders)?;
-    let sound = match orders.as_array::<ORDERS_WORDS>() {
-        Some(o) => order_links::is_sound(o),
-        None => false,
-    };
+    let o = orders.as_array::<ORDERS_WORDS>().ok_or(Refusal::Room)?;
+    let sound = order_links::is_sound(o);
     answer_all(
         bytes,
         bytes.len() / 16,

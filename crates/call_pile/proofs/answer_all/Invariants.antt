@@ -1,5 +1,5 @@
 -- `answer_all` meets its contract: the loop invariant is `Left` (Turns.antt), the replies so far and the requests that are left.
-use Prim.Native.Nat.{◌-◌, ◌*◌, ◌≤◌}
+use Prim.Native.Nat.{◌*◌}
 use mathlib.Core.Bool.{true}
 use mathlib.Core.Path.{◌≡◌}
 use lib.ListN.{length}
@@ -11,6 +11,5 @@ use Rattle.call_pile.proofs.answer_all.Given as goal
 abbrev pub invariant-loop-i : goal.invariant-loop-i
 invariant-loop-i l =
     (l.at ≡ 16 * l.i)
-    × ((l.i ≤ l.n) ×
-    ((length l.out ≡ length l.initial.out) ×
-    ((l.sound ≡ true → sound_of l.orders ≡ true) × Left l.n l.bytes (buffers l.initial.policy l.initial.sessions l.initial.orders) (buffers l.policy l.sessions l.orders) l.i l.at l.initial.out l.out)))
+    × ((length l.out ≡ length l.initial.out) ×
+    ((l.sound ≡ true → sound_of l.orders ≡ true) × Left l.n l.bytes (buffers l.initial.policy l.initial.sessions l.initial.orders) (buffers l.policy l.sessions l.orders) l.i l.at l.initial.out l.out))
