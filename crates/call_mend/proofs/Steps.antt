@@ -112,9 +112,9 @@ emptied s o c d p =
     tables-sound (buffers p s o) d.sound ∙ (λ i. record { lower = record { policy = policy_of p; sessions = c.tables i }; orders = d.tables i })
 
 -- ---- The ways in which a step returns: refused, as the first step on emptied buffers, or as a later step.
-pub no-turn : (s out : Bytes) (room place k : ℕ) (x : Buffers) {e : Refusal} {n : ℕ} → refusal_number e ≡ checked s out room x → n ≡ refusal_number e
+pub no-turn : (s out : Bytes) (room place k : ℕ) (x : Buffers) (e : Refusal) {n : ℕ} → refusal_number e ≡ checked s out room x → n ≡ refusal_number e
     → Turned room place k s out x out x (record { place = n; reply = 0 })
-no-turn s out room place k x {e} {n} q m =
+no-turn s out room place k x e {n} q m =
     let z : checked s out room x ≡ 0 → ⊥ = λ h. not-granted e (q ∙ h) in
     record {
       refused = λ _. (ap (λ (i : ℕ). record { place = i; reply = 0 }) (m ∙ q), (refl, refl));
@@ -151,14 +151,14 @@ module _ (s out : Bytes) (room place k : ℕ) (x : Buffers) (judged : 0 ≡ chec
           let h = found.ahead (λ z. n (ap (λ (y : Dropped). y.reply) g ∙ z)) in
           subst (λ (y : Dropped). (k < y.place) × (y.place ≤ length s / 16 + 1)) (sym g) h
 
-  pub first-turn : {out' : Bytes} {p₁ p' s' o' : List ℕ} {d₀ d : Dropped} → b ≡ true → k ≡ 0 → policy.Cleared p₁ → sessions.Cleared s' → entries.Cleared o'
+  pub first-turn : {out' : Bytes} {p₁ p' s' o' : List ℕ} {d₀ d : Dropped} → k ≡ 0 → policy.Cleared p₁ → sessions.Cleared s' → entries.Cleared o'
       → Found place k s out (policy_of p₁) out' (policy_of p') d₀ → d ≡ numbered d₀ → Turned room place k s out x out' (buffers p' s' o') d
-  first-turn {out'} {p₁} {p'} {s'} {o'} {d₀} {d} f z c cs co found is =
-      turned out' p₁ p' s' o' d₀ d f (c.tables ∙ rw (eq-eqb k 0 z)) found is (λ _. record { tables = emptied s' o' cs co; sound = co.sound })
+  first-turn {out'} {p₁} {p'} {s'} {o'} {d₀} {d} z c cs co found is =
+      turned out' p₁ p' s' o' d₀ d (c.tables ∙ rw (eq-eqb k 0 z)) found is (λ _. record { tables = emptied s' o' cs co; sound = co.sound })
 
-  pub later-turn : {out' : Bytes} {p' : List ℕ} {d₀ d : Dropped} → b ≡ true → (k ≡ 0 → ⊥) →
+  pub later-turn : {out' : Bytes} {p' : List ℕ} {d₀ d : Dropped} → (k ≡ 0 → ⊥) →
       Found place k s out (policy_of x.policy) out' (policy_of p') d₀ → d ≡ numbered d₀
       → Turned room place k s out x out' (buffers p' x.sessions x.orders) d
-  later-turn {out'} {p'} {d₀} {d} f n found is =
-      turned out' x.policy p' x.sessions x.orders d₀ d f (rw (ne_eqb k 0 n)) found is
+  later-turn {out'} {p'} {d₀} {d} n found is =
+      turned out' x.policy p' x.sessions x.orders d₀ d (rw (ne_eqb k 0 n)) found is
       (λ h. let w = h (omega arith) in record { tables = w.tables; sound = w.sound })
