@@ -132,8 +132,10 @@ fn answer(
     ensures { (result ≤ 16384) × Settling (buffers policy.new sessions.new orders.new) }
 {
     let mut to = 0;
-    for (i, record) in block.chunks(16).enumerate() {
-        let outcome = engine::settled_request(record, policy, sessions, orders);
+    for i in 0..block.len().div_ceil(16) {
+        let at = 16 * i;
+        let end = block.len().min(at + 16);
+        let outcome = engine::settled_request(&block[at..end], policy, sessions, orders);
         to = put_answer(
             out,
             to,
