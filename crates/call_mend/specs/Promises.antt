@@ -1,11 +1,13 @@
 -- The contract of the call, for every file, output, report and content of the state; the contract of one step of it; and what follows.
-use Rattle.std.specs.Prelude.{ℕ, suc, ◌+◌, ◌*◌, ◌/◌, ◌≤◌, ◌<◌, true, cond, List, [], ◌∷◌, ◌≡◌, eqb, length, take}
+use Rattle.std.specs.Prelude.{ℕ, suc, ◌+◌, ◌*◌, ◌/◌, ◌≤◌, ◌<◌, true, cond, List, [], ◌∷◌, ◌≡◌, eqb, length, take, Result, Ok, Err}
 use Rattle.paper_lower.specs.Checks.{GRANTED, first, granted}
 use Rattle.paper_lower.specs.Records.{Bytes}
 use Rattle.paper_lower.specs.Tables.{Policy, no_policy}
 use Rattle.paper_lower.specs.Load.{load}
 use Rattle.paper_lower.specs.Mend.{mend}
 use Rattle.paper_upper.specs.Engine.{engine_of}
+use Rattle.replies.specs.Replies.{refusal_number}
+use Rattle.replies.specs.declared.Refusal.{Refusal}
 use Rattle.policy.specs.Reading.{policy_of}
 use Rattle.order_links.specs.Chains.{sound_of}
 use Rattle.lower.specs.Exports.{inside_one}
@@ -36,6 +38,11 @@ checked s out room x = first (mend_checks (fit x) s out room)
 -- If d ends the call, its place becomes the number of the call.
 abbrev pub numbered : Dropped → Dropped
 numbered d = granted d.reply (record { place = inside_one 0 d.place; reply = 0 }) d
+
+-- What a step answers: the dropped record, or the refusal of the call, which ends it.
+abbrev pub dropped_or : Result Dropped Refusal → Dropped
+dropped_or (Ok d) = d
+dropped_or (Err e) = record { place = refusal_number e; reply = 0 }
 
 -- What is left to do for the rest of a file, with the number of the call at the end.
 pub record Ending : Type 0 where

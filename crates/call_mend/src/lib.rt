@@ -5,7 +5,7 @@
 ghost use Rattle.std.specs.Prelude.{◌≡◌, ◌+◌, ◌/◌, ◌≤◌, length};
 ghost use Rattle.replies.specs.Replies.{number_of};
 ghost use Rattle.engine.specs.Buffers.{buffers};
-ghost use Rattle.call_mend.specs.Promises.{MendDone, Turned, checked, numbered};
+ghost use Rattle.call_mend.specs.Promises.{MendDone, Turned, checked, numbered, dropped_or};
 
 use order_links::ORDERS_WORDS;
 use policy::POLICY_WORDS;
@@ -47,8 +47,37 @@ fn ended(d: Dropped) -> Dropped
     d
 }
 
+// A step, or the refusal of the call. While no record has been dropped yet, it empties the state first.
+fn turn(
+    input: &[u8],
+    output: &mut [u8],
+    room: usize,
+    place: u64,
+    dropped: usize,
+    policy: &mut [u64],
+    sessions: &mut [u64],
+    orders: &mut [u64],
+) -> Result<Dropped, Refusal>
+    requires { (place ≤ length input.now / 16 + 1) × (dropped ≤ place) }
+    ensures { Turned room place dropped input.now output.old (buffers policy.old sessions.old orders.old) output.new (buffers policy.new sessions.new orders.new) (dropped_or result) }
+{
+    judge(input, output, room, policy, sessions, orders)?;
+    let p = policy.as_mut_array::<POLICY_WORDS>().ok_or(Refusal::Room)?;
+    let s = sessions
+        .as_mut_array::<SESSIONS_WORDS>()
+        .ok_or(Refusal::Room)?;
+    let o = orders.as_mut_array::<ORDERS_WORDS>().ok_or(Refusal::Room)?;
+    if dropped == 0 {
+        policy::clear(p);
+        sessions::clear(s);
+        order_entries::clear(o);
+        return Ok(ended(policy_mending::next(input, place, dropped, output, p)));
+    }
+    Ok(ended(policy_mending::next(input, place, dropped, output, p)))
+}
+
 // Finds the next dropped record and returns its place and refusal; or, at the end, reply 0 with the call's number as the place. If the lengths are wrong, that
-// number is ROOM. While no record has been dropped yet, it empties the state first.
+// number is ROOM.
 pub fn step(
     input: &[u8],
     output: &mut [u8],
@@ -62,29 +91,15 @@ pub fn step(
     requires { (place ≤ length input.now / 16 + 1) × (dropped ≤ place) }
     ensures { Turned room place dropped input.now output.old (buffers policy.old sessions.old orders.old) output.new (buffers policy.new sessions.new orders.new) result }
 {
-    if let Err(refusal) = judge(input, output, room, policy, sessions, orders) {
-        return Dropped {
+    match turn(
+        input, output, room, place, dropped, policy, sessions, orders,
+    ) {
+        Ok(d) => d,
+        Err(refusal) => Dropped {
             place: u64::from(refusal),
             reply: 0,
-        };
+        },
     }
-    let (Some(p), Some(s), Some(o)) = (
-        policy.as_mut_array::<POLICY_WORDS>(),
-        sessions.as_mut_array::<SESSIONS_WORDS>(),
-        orders.as_mut_array::<ORDERS_WORDS>(),
-    ) else {
-        return Dropped {
-            place: u64::from(Refusal::Room),
-            reply: 0,
-        };
-    };
-    if dropped == 0 {
-        policy::clear(p);
-        sessions::clear(s);
-        order_entries::clear(o);
-        return ended(policy_mending::next(input, place, dropped, output, p));
-    }
-    ended(policy_mending::next(input, place, dropped, output, p))
 }
 
 // Mends `input` into `output`, for C and Rust: the number is the reply + 256 times the number of records kept. Each answer of `step` that names a dropped
