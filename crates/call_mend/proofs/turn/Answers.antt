@@ -58,7 +58,7 @@ returns c =
     let p : c.in_ok-p.p.now ≡ z.policy.now = search rules in
     let s : c.in_ok-s.s.now ≡ z.sessions.now = search rules in
     let o : c.in_ok-o.o.now ≡ z.orders.now = search rules in
-    let found = rw p at c.next-2.ensures in
-    rw (s, o)
-    (later-turn z.input.now z.output.now z.room z.place z.dropped (buffers z.policy.now z.sessions.now z.orders.now) c.in_ok-judge.ensures
-    c.if-dropped-eq0.false found c.ended-2.ensures)
+    let judged = rw (← p, ← s, ← o) at c.in_ok-judge.ensures in
+    rw (← p, ← s, ← o)
+    (later-turn z.input.now z.output.now z.room z.place z.dropped (buffers c.in_ok-p.p.now c.in_ok-s.s.now c.in_ok-o.o.now) judged
+    c.if-dropped-eq0.false c.next-2.ensures c.ended-2.ensures)
