@@ -16,7 +16,7 @@ use Rattle.paper_lower.specs.Records.{Bytes}
 use Rattle.paper_lower.specs.Kinds.{after}
 use Rattle.paper_upper.specs.Orders.{SameTables}
 use Rattle.paper_upper.specs.Engine.{request, Placed, placed_run}
-use Rattle.replies.specs.Replies.{number_of, Outcome, outcome_number, outcome_place}
+use Rattle.replies.specs.Replies.{Outcome, outcome_number}
 use Rattle.engine.specs.Buffers.{Buffers, tables_of, fit, SameLengths}
 use Rattle.engine.specs.Answers.{Requested}
 use Rattle.order_links.specs.Chains.{sound_of}

@@ -3,7 +3,7 @@ use Prim.Native.Nat.{ℕ}
 use mathlib.Core.Bool.{Bool, true, false, not, cond, true≢false}
 use mathlib.Core.List.{List, [], ◌∷◌, ◌++◌, append_assoc}
 use mathlib.Core.Path.{◌≡◌, refl, sym, ap, subst, ◌∙◌}
-use borrow.Author.Tests.{eqb-true, eqb-false, eq-eqb, ne_eqb, not-true, not-false}
+use borrow.Author.Tests.{eqb-true, eqb-false, eq-eqb, ne_eqb, not-false}
 use lib.Dec.{eqb, T}
 use lib.ListN.{length}
 use Rattle.paper_lower.specs.Lists.{some, Every}
@@ -13,11 +13,10 @@ use Rattle.paper_lower.specs.Forms.{request_forms, form_checks}
 use Rattle.paper_lower.specs.Kinds.{chosen, reply_to, answer, Answer}
 use Rattle.paper_lower.proofs.CheckLaws.{Numbered, passed, first_stops, none-applies}
 use Rattle.paper_upper.specs.Orders.{Engine}
-use Rattle.paper_upper.specs.Stuck.{stuck_of}
-use Rattle.paper_upper.specs.Requests.{stuck_checks, upper_kinds}
+use Rattle.paper_upper.specs.Requests.{upper_kinds}
 use Rattle.paper_upper.specs.Questions.{figures_of, figure_words, answer_words, padded, question_numbers, asks, answered, answer_to}
 use Rattle.paper_upper.specs.Engine.{request_kinds, request}
-use Rattle.std.specs.Prelude.{Ok, Err}
+use Rattle.std.specs.Prelude.{Ok}
 use Rattle.replies.specs.Replies.{Reply, number_of, refusal_number}
 use Rattle.replies.specs.declared.Refusal.{Refusal}
 use Rattle.replies.specs.declared.Refusal.TheVariants.{Unknown}
@@ -30,8 +29,6 @@ use Rattle.records.specs.declared.Record.{Record}
 use Rattle.records.proofs.Passing.{sized, passed as within-limits, passed-answer}
 use Rattle.records.proofs.Span.{Rest, one_each, others}
 use Rattle.policy.specs.Layout.{policy_words}
-use Rattle.policy.specs.Reading.{policy_of}
-use Rattle.policy.specs.Promises.{Judged}
 use Rattle.order_links.specs.Chains.{orders_words, sound_of}
 use Rattle.order_entries.specs.Reading.{orders_of}
 use Rattle.order_entries.specs.Acts.{Ready}
@@ -69,9 +66,6 @@ no-other-question k h r = true≢false (sym h ∙ no_other question_numbers k (o
 
 -- ---- Kind 58, the figures of an order.
 module _ {o : List ℕ} {a : ℕ} {old : List ℕ} where
-  pub not-figured : {e : Refusal} → FiguresJudged o a (Err e) → FiguresAnswered o a old old (Err e)
-  not-figured {e} judged = record { replies = judged; written = granted-old _ old _ (not-granted e) }
-
   pub figured : {u : Unit {0}} → FiguresJudged o a (Ok u) → (new : List ℕ) → new ≡ padded (figure_words (figures_of a (orders_of o).entries))
       → FiguresAnswered o a old new (Ok u)
   figured judged new w = record { replies = judged; written = w }
@@ -81,14 +75,6 @@ unfolding chosen request_kinds upper_kinds answer_to answered
 of-figures p o r k d = record { replies = λ s. rw k (d.replies p s); written = λ s. rw k d.written }
 
 -- ---- Kind 60, the stuck tasks of a template.
-module _ {p : List ℕ} {a : ℕ} {old : List ℕ} where
-  pub not-told : {e : Refusal} → Judged (λ k. stuck_checks k.tasks a) p (Err e) → StuckAnswered p a old old (Err e)
-  not-told {e} judged = record { replies = judged; written = granted-old _ old _ (not-granted e) }
-
-  pub told : {u : Unit {0}} → Judged (λ k. stuck_checks k.tasks a) p (Ok u) → {l : List ℕ} → l ≡ padded (stuck_of (policy_of p).tasks (policy_of p).rules a)
-      → StuckAnswered p a old l (Ok u)
-  told judged e = record { replies = judged; written = e }
-
 pub of-stuck : (p o : List ℕ) (r : Record) {old new : List ℕ} {y : Reply} → r.kind ≡ 60 → StuckAnswered p r.a old new y → Answered p o r old new y
 unfolding chosen request_kinds upper_kinds answer_to answered
 of-stuck p o r k d = record { replies = λ s. rw k d.replies; written = λ s. rw k d.written }

@@ -8,7 +8,7 @@ use Rattle.paper_upper.specs.Stuck.{stuck_of}
 use Rattle.paper_upper.specs.Requests.{figures_checks, stuck_checks}
 use Rattle.paper_upper.specs.Questions.{figures_of, figure_words, answer_words, padded, asks, answer_to}
 use Rattle.paper_upper.specs.Engine.{request_kinds}
-use Rattle.replies.specs.Replies.{Reply, number_of, Outcome, outcome_number, outcome_place}
+use Rattle.replies.specs.Replies.{Reply, number_of, Outcome, outcome_number}
 use Rattle.records.specs.Reading.{paper_of}
 use Rattle.records.specs.declared.Record.{Record}
 use Rattle.policy.specs.Reading.{policy_of}
