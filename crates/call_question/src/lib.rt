@@ -2,13 +2,12 @@
 // length. The reply is the one that the engine's request gives to the same record.
 #![tactic(auto)]
 
-ghost use Rattle.std.specs.Prelude.{◌≡◌, true, ◌++◌, ◌<◌, length, replicate};
+ghost use Rattle.std.specs.Prelude.{◌≡◌, true, ◌++◌, ◌<◌, replicate};
 ghost use Rattle.paper_lower.specs.Checks.{first};
 ghost use Rattle.paper_lower.specs.Forms.{request_forms, form_checks};
 ghost use Rattle.paper_upper.specs.Questions.{answer_words, asks};
 ghost use Rattle.replies.specs.Replies.{number_of};
 ghost use Rattle.records.specs.Limits.{Limits};
-ghost use Rattle.policy.specs.Layout.{policy_words};
 ghost use Rattle.order_entries.specs.Acts.{Ready};
 ghost use Rattle.engine.specs.Buffers.{buffers, fit};
 ghost use Rattle.call_question.specs.Question.{question_checks};

@@ -14,7 +14,7 @@
 // The buffers are passed from line to line by value, because a proof about a value is much cheaper than a proof about a borrowed buffer.
 #![tactic(auto)]
 
-ghost use Rattle.std.specs.Prelude.{◌<◌, ◌≤◌, length};
+ghost use Rattle.std.specs.Prelude.{◌≤◌};
 
 use order_links::ORDERS_WORDS;
 use policy::POLICY_WORDS;

@@ -13,8 +13,6 @@
 // The buffers are passed from line to line by value, because a proof about a value is much cheaper than a proof about a borrowed buffer.
 #![tactic(auto)]
 
-ghost use Rattle.std.specs.Prelude.{◌<◌, ◌≤◌, length};
-
 use policy::POLICY_WORDS;
 use replies::Outcome;
 use scripts::{Handed, Machine};
