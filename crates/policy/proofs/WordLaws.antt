@@ -5,19 +5,13 @@ use mathlib.Core.Path.{◌≡◌, refl, sym, ap, ◌∙◌}
 use native.Mathlib.Omega.{arith}
 use borrow.Author.Tests.{eqb-true, ne_eqb}
 use lib.Dec.{eqb, leb}
-use Rattle.std.specs.Int.{from_bool}
 use Rattle.paper_lower.specs.Lists.{Maybe, holds, there, is}
 use Rattle.paper_lower.specs.Lists.Maybe.{none, just}
 use Rattle.paper_lower.specs.Tables.{Permission}
 use Rattle.paper_lower.specs.Policy.{is_for}
 use Rattle.replies.proofs.CellLaws.{two-parts}
-use Rattle.policy.specs.Layout.{same, flag_of, permission_of, template_of, most_of}
+use Rattle.policy.specs.Layout.{same, permission_of, template_of, most_of}
 use Rattle.policy.specs.Reading.{value_of}
-
--- A flag is stored as 1 or 0.
-pub flag-stored : (b : Bool) {v : ℕ} → v ≡ from_bool b → flag_of v ≡ b
-flag-stored true e = ap flag_of e
-flag-stored false e = ap flag_of e
 
 there-if : {A : Type 0} (t : Bool) (x : A) → t ≡ there (cond t (just x) none)
 unfolding holds

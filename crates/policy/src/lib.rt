@@ -6,7 +6,7 @@ ghost use Rattle.std.specs.Prelude.{◌≡◌, ◌+◌, ◌*◌, ◌/◌, ◌%�
 ghost use Rattle.paper_lower.specs.Sets.{has};
 ghost use Rattle.paper_lower.specs.Lists.{holds, there, is};
 ghost use Rattle.paper_lower.specs.Policy.{together};
-ghost use Rattle.policy.specs.Layout.{same, seniors_in, permission_of, table_in, bucket_table, bucket_of, first_in, second_in, eights_in, first_anew, second_anew, eights_anew, among, listing_for, row_holds, in_bucket, unless_in, unless_stray, limit_count, limit_at, block_count, block_at, pair_count, pair_at, wall_word, wall_count, walled_at, wall_rows, walled_is};
+ghost use Rattle.policy.specs.Layout.{same, seniors_in, flag_of, permission_of, table_in, bucket_table, bucket_of, first_in, second_in, eights_in, first_anew, second_anew, eights_anew, among, listing_for, row_holds, in_bucket, unless_in, unless_stray, limit_count, limit_at, block_count, block_at, pair_count, pair_at, wall_word, wall_count, walled_at, wall_rows, walled_is};
 ghost use Rattle.policy.specs.Kinds.{set_index, pair_index};
 ghost use Rattle.policy.specs.Reading.{policy_of, value_of, Cleared, Ready, Tidied, roles_anew, user_anew, assigned_anew, juniors_anew, below_anew, permission_anew, holders_anew, carriers_anew, template_anew, open_to_anew, banned_anew, most_anew, limit_added, block_added, pair_added, wall_added};
 
@@ -136,12 +136,12 @@ pub fn user_declared(p: &PolicyBuffer, a: usize) -> bool
     p[USERS + a] % 2 == 1
 }
 
-// Declares user a or removes the declaration, and replaces the user's roles.
-pub fn set_user(p: &mut PolicyBuffer, a: usize, declared: bool, roles: Set)
+// Declares user a (1) or removes the declaration (0), and replaces the user's roles.
+pub fn set_user(p: &mut PolicyBuffer, a: usize, declared: u64, roles: Set)
     requires { a < 1024 }
-    ensures { policy_of p.new ≡ user_anew (policy_of p.old) a declared roles.bits }
+    ensures { policy_of p.new ≡ user_anew (policy_of p.old) a (flag_of declared) roles.bits }
 {
-    p[USERS + a] = u64::from(declared);
+    p[USERS + a] = declared;
     p[ASSIGNED + a] = roles.bits;
 }
 

@@ -30,7 +30,7 @@ pub fn user(p: &mut PolicyBuffer, a: u64) -> Reply
     ensures { Recorded (λ t. user_checks t a) (λ t. user_next t a) p.old p.new result }
 {
     user_reply(p, a)?;
-    policy::set_user(p, a as usize, true, Set::EMPTY);
+    policy::set_user(p, a as usize, 1, Set::EMPTY);
     Ok(())
 }
 

@@ -40,7 +40,7 @@ pub fn join(p: &mut PolicyBuffer, a: u64, m: Set) -> Reply
     ensures { Joined p.old p.new a m.bits result }
 {
     join_reply(p, a, m)?;
-    policy::set_user(p, a as usize, true, m);
+    policy::set_user(p, a as usize, 1, m);
     Ok(())
 }
 
@@ -65,7 +65,7 @@ pub fn remove(p: &mut PolicyBuffer, s: &mut SessionsBuffer, a: u64)
     requires { a < 1024 }
     ensures { lower_tables p.new s.new ≡ user_gone (lower_tables p.old s.old) a }
 {
-    policy::set_user(p, a as usize, false, Set::EMPTY);
+    policy::set_user(p, a as usize, 0, Set::EMPTY);
     let nowhere = blocks::none();
     sessions::set_bound_to(s, a as usize, nowhere);
 }
