@@ -14,7 +14,8 @@ ghost use Rattle.call_question.specs.Question.{question_checks};
 ghost use Rattle.call_question.specs.Promises.{FiguresAnswered, StuckAnswered, Answered, Questioned};
 
 use order_links::{ORDERS_WORDS, OrdersBuffer};
-use order_stuck::{ANSWER_WORDS, AnswerBuffer};
+pub use order_stuck::ANSWER_WORDS;
+use order_stuck::AnswerBuffer;
 use policy::{POLICY_WORDS, PolicyBuffer};
 use records::{Call, Record};
 use replies::{Refusal, Reply};

@@ -2,13 +2,11 @@
 // always answer. "Links" are the chains of entries in the orders buffer; `order_links::is_sound` checks that they and the kept figures are consistent.
 #![tactic(auto)]
 
-ghost use Rattle.std.specs.Prelude.{◌≡◌, false, length};
+ghost use Rattle.std.specs.Prelude.{◌≡◌, false};
 ghost use Rattle.paper_lower.specs.Forms.{request_forms};
 ghost use Rattle.replies.specs.Replies.{outcome_reply, outcome_place};
 ghost use Rattle.records.specs.Limits.{Limits};
-ghost use Rattle.policy.specs.Layout.{policy_words};
-ghost use Rattle.sessions.specs.Reading.{sessions_words};
-ghost use Rattle.order_links.specs.Chains.{orders_words, sound_of};
+ghost use Rattle.order_links.specs.Chains.{sound_of};
 ghost use Rattle.engine.specs.Buffers.{buffers, no_engine, tables_of, fit_words};
 ghost use Rattle.engine.specs.Step.{AnyStep, SettlingStep};
 ghost use Rattle.engine.specs.Answers.{Requested, LoadDone};
@@ -16,7 +14,7 @@ ghost use Rattle.engine.specs.Settling.{Settled, SettledAs, SettledRequest, Quic
 ghost use Rattle.engine.specs.Exports.{LoadExported, RequestExported, words_of};
 
 use order_links::{ORDERS_WORDS, OrdersBuffer};
-use order_stuck::ANSWER_WORDS;
+pub use order_stuck::ANSWER_WORDS;
 use policy::{POLICY_WORDS, PolicyBuffer};
 use records::{Call, Record};
 use replies::{Outcome, Refusal, Refused, Reply, plain};

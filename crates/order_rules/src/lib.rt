@@ -3,11 +3,11 @@
 // user, called D in the rules.
 #![tactic(auto)]
 
-ghost use Rattle.std.specs.Prelude.{◌≡◌, ◌<◌, length};
+ghost use Rattle.std.specs.Prelude.{◌≡◌, ◌<◌};
 ghost use Rattle.paper_lower.specs.Lists.{some};
 ghost use Rattle.paper_lower.specs.Lists.Maybe.{just};
 ghost use Rattle.paper_upper.specs.Rules.{missing, before, crowded, separation, own, strange, block_within, block, alone, tied, bound};
-ghost use Rattle.policy.specs.Layout.{policy_words, limit_at, block_at, pair_at};
+ghost use Rattle.policy.specs.Layout.{limit_at, block_at, pair_at};
 ghost use Rattle.policy.specs.Reading.{policy_of};
 ghost use Rattle.order_rules.specs.Blocks.{after, apart};
 ghost use Rattle.order_rules.specs.Judging.{place_if_any, Judging};

@@ -2,7 +2,7 @@
 // if the record is accepted. Requests 34 and 36 use those of kinds 4 and 5.
 #![tactic(auto)]
 
-ghost use Rattle.std.specs.Prelude.{◌≡◌, ◌<◌};
+ghost use Rattle.std.specs.Prelude.{◌<◌};
 ghost use Rattle.paper_lower.specs.Policy.{user_checks, user_next, role_checks, role_next, permission_checks, permission_next, assign_checks, assign_next, give_checks, give_next, task_checks, task_next, open_to_checks, open_to_next, carries_checks, carries_next};
 ghost use Rattle.policy.specs.Promises.{Judged, Recorded};
 

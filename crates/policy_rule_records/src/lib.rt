@@ -24,7 +24,7 @@ fn full_at(most: usize, kept: usize) -> Reply
     Ok(())
 }
 
-// ---- Sets: static sets 0, dynamic sets 1, task sets 2.
+// ---- Sets.
 
 // Whether n is 0 or is not below the number of members.
 #[tactic(auto, unfolding(paper_lower::specs::Policy::ill_made))]
@@ -208,7 +208,7 @@ pub fn most(p: &mut PolicyBuffer, n: u64, a: u64) -> Reply
     Ok(())
 }
 
-// ---- Pairs of tasks: bindings 0, prerequisites 1.
+// ---- Pairs of tasks.
 
 // The reply to a pair; `repeated` says that the policy already has it.
 #[tactic(auto, using(crate::proofs::Room::pairs_many), unfolding(crate::specs::Shared::pair_checks))]

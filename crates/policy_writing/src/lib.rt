@@ -77,7 +77,7 @@ fn most(output: &mut [u8], place: usize, p: &PolicyBuffer, a: usize) -> usize
     put(output, place, there, 14, n, a as u64, 0, 0, 0)
 }
 
-// Set k of a kind (static sets 0, dynamic sets 1, task sets 2).
+// Set k of a kind.
 #[tactic(auto, unfolding(paper_lower::specs::Written::when))]
 fn limit(output: &mut [u8], place: usize, p: &PolicyBuffer, which: SetKind, k: usize) -> usize
     requires { (place < far) × (k < 32) }
@@ -99,7 +99,7 @@ fn block(output: &mut [u8], place: usize, p: &PolicyBuffer, k: usize) -> usize
     put(output, place, true, 12, 0, a, 0, 0, m.bits)
 }
 
-// Pair k of a kind (bindings 0, prerequisites 1).
+// Pair k of a kind.
 #[tactic(auto, unfolding(paper_lower::specs::Written::when))]
 fn pair(output: &mut [u8], place: usize, p: &PolicyBuffer, which: PairKind, k: usize) -> usize
     requires { (place < far) × (k < 64) }
@@ -291,7 +291,7 @@ pub fn packed(written: Result<usize, Refusal>) -> u64
     }
 }
 
-// The same for C and Rust, on the buffers of the lower part. Returns the reply plus 256 times the number of records.
+// `write` for C and Rust, on the buffers of the lower part. Returns the reply plus 256 times the number of records.
 #[unsafe(no_mangle)]
 pub extern "C" fn mishantral_lower_write(output: &mut [u8], policy: &[u64], sessions: &[u64]) -> u64
     ensures { Exported (fit policy.now sessions.now) (policy_of policy.now) output.old output.new result }
