@@ -17,7 +17,16 @@ use Rattle.paper_opl.proofs.Inversion.{on_test}
 use Rattle.paper_opl.proofs.Conforms.{same_true}
 use Rattle.opl_table.specs.Numbers.{names, name_of}
 use Rattle.opl_turns.specs.declared.TheConstants.{GUESSES, KINDS}
-use Rattle.opl_turns.specs.Meaning.{guess_of, element_of, inners, inner_of, kind_by, sets_by, parts_by, walls_by, blocks_by}
+use Rattle.opl_turns.specs.Meaning.{guesses, guess_of, element_of, inners, inner_of, kind_list, kind_by, sets_by, parts_by, walls_by, blocks_by}
+
+-- ---- The tables of the code hold the numbers of the definitions.
+pub guesses-held : GUESSES ≡ guesses
+unfolding guesses
+guesses-held = refl
+
+pub kinds-held : KINDS ≡ kind_list
+unfolding kind_list
+kinds-held = refl
 
 -- ---- The tables, checked by computation.
 
@@ -53,15 +62,15 @@ below_at p (suc n) k h a =
 tells : ℕ → Bool
 tells g =
     ltb g 128
-    && (ltb (get_or KINDS g 0) 19
-    && (eqb (kind_in kinds (name_of g)) (get_or KINDS g 0)
+    && (ltb (get_or kind_list g 0) 19
+    && (eqb (kind_in kinds (name_of g)) (get_or kind_list g 0)
     && (named g (text "critical_role_set") 23
     && (named g (text "static_separation_of_duty") 20
     && (named g (text "dynamic_separation_of_duty") 21 && (named g (text "hdsodtp_partitioning") 38 && (named g (text "hdsodtp_partition") 39
     && (named g (text "module_chinese_wall_policy") 69 && (named g (text "cw_partition") 71 && named g (text "partition_object") 72)))))))))
 
-guesses-tell : every (λ h. tells (get_or GUESSES h 0)) (count_to 64) ≡ true
-unfolding lists_open reading_open elements_open kinds kind_in names name_of tells alike count_to
+guesses-tell : every (λ h. tells (get_or guesses h 0)) (count_to 64) ≡ true
+unfolding lists_open reading_open elements_open kinds kind_in names name_of kind_list guesses tells alike count_to
 guesses-tell = refl
 
 -- The guess for this name is right.
@@ -69,13 +78,13 @@ abbrev guessed : Text → Bool
 guessed w = same w (name_of (guess_of w))
 
 kinds-guessed : every (λ x. guessed x.0) kinds ≡ true
-unfolding lists_open reading_open elements_open kinds names name_of guess_of
+unfolding lists_open reading_open elements_open kinds names name_of guesses guess_of
 kinds-guessed = refl
 
 others-guessed : (guessed (text "critical_role_set") ≡ true) × (guessed (text "static_separation_of_duty") ≡ true) ×
     (guessed (text "dynamic_separation_of_duty") ≡ true) × (guessed (text "hdsodtp_partitioning") ≡ true) × (guessed (text "hdsodtp_partition") ≡ true) ×
     (guessed (text "module_chinese_wall_policy") ≡ true) × (guessed (text "cw_partition") ≡ true) × (guessed (text "partition_object") ≡ true)
-unfolding lists_open reading_open elements_open names name_of guess_of
+unfolding lists_open reading_open elements_open names name_of guesses guess_of
 others-guessed = (refl, refl, refl, refl, refl, refl, refl, refl)
 
 -- ---- Any name.
@@ -85,7 +94,7 @@ mod-lt n = omega arith
 
 guess-tells : (w : Text) → tells (guess_of w) ≡ true
 unfolding guess_of
-guess-tells w = below_at (λ h. tells (get_or GUESSES h 0)) 64 _ guesses-tell (mod-lt (length w + 47 * get_or w (length w - 1) 0 + 3 * get_or w 0 0))
+guess-tells w = below_at (λ h. tells (get_or guesses h 0)) 64 _ guesses-tell (mod-lt (length w + 47 * get_or w (length w - 1) 0 + 3 * get_or w 0 0))
 
 unlike : (x w : Text) → guessed x ≡ true → guessed w ≡ false → same w x ≡ false
 unlike x w g f = on_test (same w x) (λ q. absurd (false≢true (sym f ∙ ap (λ (v : Text). guessed v) (same_true w x q) ∙ g))) (λ q. q)
@@ -100,8 +109,8 @@ kind-none (x ∷ xs) w h f =
 -- What the definitions find for the name w is what the tables have for the number id.
 pub record Meant (w : Text) (id : ℕ) : Type 0 where
   pub low : id < 128
-  pub small : get_or KINDS id 0 < 19
-  pub kind : kind_in kinds w ≡ get_or KINDS id 0
+  pub small : get_or kind_list id 0 < 19
+  pub kind : kind_in kinds w ≡ get_or kind_list id 0
   pub set : same w (text "critical_role_set") ≡ eqb id 23
   pub static : same w (text "static_separation_of_duty") ≡ eqb id 20
   pub dynamic : same w (text "dynamic_separation_of_duty") ≡ eqb id 21
@@ -115,8 +124,8 @@ by_number : (g : ℕ) → tells g ≡ true → Meant (name_of g) g
 unfolding tells
 by_number g h =
     let y = both (ltb g 128) _ h in
-    let z = both (ltb (get_or KINDS g 0) 19) _ y.1 in
-    let a = both (eqb (kind_in kinds (name_of g)) (get_or KINDS g 0)) _ z.1 in
+    let z = both (ltb (get_or kind_list g 0) 19) _ y.1 in
+    let a = both (eqb (kind_in kinds (name_of g)) (get_or kind_list g 0)) _ z.1 in
     let b = both (named g (text "critical_role_set") 23) _ a.1 in
     let c = both (named g (text "static_separation_of_duty") 20) _ b.1 in
     let d = both (named g (text "dynamic_separation_of_duty") 21) _ c.1 in
@@ -139,6 +148,7 @@ by_number g h =
     }
 
 unguessed : (w : Text) → guessed w ≡ false → Meant w 127
+unfolding kind_list
 unguessed w f =
     record {
       low = omega arith;
@@ -162,7 +172,7 @@ meant w =
     (λ q. rw q (unguessed w q))
 
 pub no_name : (w : Text) → length w ≡ 0 → 127 ≡ guess_of w
-unfolding guess_of
+unfolding guesses guess_of
 no_name [] e = refl
 no_name (b ∷ w) e = absurd (omega (arith, e))
 
@@ -172,12 +182,12 @@ no_name (b ∷ w) e = absurd (omega (arith, e))
 sought : List ℕ
 sought = 12 ∷ 13 ∷ 14 ∷ 15 ∷ 16 ∷ 24 ∷ 25 ∷ 36 ∷ 40 ∷ 72 ∷ []
 
-guesses-sought : every (λ h. every (λ e. named (get_or GUESSES h 0) (name_of e) e) sought) (count_to 64) ≡ true
-unfolding lists_open reading_open elements_open names name_of alike sought count_to
+guesses-sought : every (λ h. every (λ e. named (get_or guesses h 0) (name_of e) e) sought) (count_to 64) ≡ true
+unfolding lists_open reading_open elements_open names name_of guesses alike sought count_to
 guesses-sought = refl
 
 sought-guessed : every (λ e. guessed (name_of e)) sought ≡ true
-unfolding lists_open reading_open elements_open names name_of guess_of sought
+unfolding lists_open reading_open elements_open names name_of guesses guess_of sought
 sought-guessed = refl
 
 every-at : (p : ℕ → Bool) (es : List ℕ) (e : ℕ) → every p es ≡ true → some (eqb e) es ≡ true → p e ≡ true
@@ -190,7 +200,7 @@ every-at p (d ∷ es) e h a =
 guess-sought : (w : Text) → every (λ e. named (guess_of w) (name_of e) e) sought ≡ true
 unfolding guess_of
 guess-sought w =
-    below_at (λ h. every (λ e. named (get_or GUESSES h 0) (name_of e) e) sought) 64 _ guesses-sought (mod-lt (length w + 47 * get_or w (length w - 1) 0 + 3 * get_or w 0 0))
+    below_at (λ h. every (λ e. named (get_or guesses h 0) (name_of e) e) sought) 64 _ guesses-sought (mod-lt (length w + 47 * get_or w (length w - 1) 0 + 3 * get_or w 0 0))
 
 unguessed-other : (e : ℕ) → some (eqb e) sought ≡ true → eqb 127 e ≡ false
 unfolding some sought

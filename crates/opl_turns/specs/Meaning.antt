@@ -2,12 +2,19 @@
 use Rattle.std.specs.Prelude.{ℕ, ◌+◌, ◌*◌, ◌-◌, ◌%◌, Bool, cond, ◌&&◌, List, [], ◌∷◌, eqb, leb, length, get_or}
 use Rattle.paper_lower.specs.Lists.{some}
 use Rattle.paper_opl.specs.Reading.{Text, same}
-use Rattle.opl_turns.specs.declared.TheConstants.{GUESSES, KINDS}
 use Rattle.opl_table.specs.Numbers.{name_of, CHINESE-WALL, CW-PARTITION, PARTITION-OBJECT}
+
+-- By a hash of a name: the only element that it can be. Listed are the elements that yield a record, declare a name, change the context or occur inside one
+-- that yields a record; 127 stands for none.
+unfoldable pub guesses : List ℕ
+guesses =
+    127 ∷ 25 ∷ 29 ∷ 40 ∷ 127 ∷ 127 ∷ 23 ∷ 35 ∷ 15 ∷ 46 ∷ 127 ∷ 127 ∷ 14 ∷ 127 ∷ 33 ∷ 127 ∷ 127 ∷ 12 ∷ 67 ∷ 127 ∷ 24 ∷ 127 ∷
+    127 ∷ 127 ∷ 69 ∷ 127 ∷ 127 ∷ 36 ∷ 127 ∷ 127 ∷ 127 ∷ 16 ∷ 127 ∷ 127 ∷ 127 ∷ 43 ∷ 127 ∷ 13 ∷ 127 ∷ 71 ∷ 127 ∷ 20 ∷ 127 ∷
+    49 ∷ 72 ∷ 127 ∷ 127 ∷ 127 ∷ 127 ∷ 18 ∷ 127 ∷ 127 ∷ 127 ∷ 38 ∷ 127 ∷ 127 ∷ 127 ∷ 127 ∷ 17 ∷ 39 ∷ 30 ∷ 21 ∷ 127 ∷ 127 ∷ []
 
 -- The guess for a name, by its length, its last byte and its first.
 unfoldable pub guess_of : Text → ℕ
-guess_of w = get_or GUESSES ((length w + 47 * get_or w (length w - 1) 0 + 3 * get_or w 0 0) % 64) 0
+guess_of w = get_or guesses ((length w + 47 * get_or w (length w - 1) 0 + 3 * get_or w 0 0) % 64) 0
 
 -- The number of the element of this name, if it is listed; otherwise 127, which no name has.
 unfoldable pub element_of : Text → ℕ
@@ -21,9 +28,16 @@ inners = 15 ∷ 16 ∷ 24 ∷ 25 ∷ 36 ∷ 40 ∷ []
 unfoldable pub inner_of : ℕ → Bool
 inner_of id = some (eqb id) inners
 
+-- The kind of record that each element yields; 0 for none, and for a set of roles, whose kind depends on the context.
+unfoldable pub kind_list : List ℕ
+kind_list =
+    0 ∷ 0 ∷ 0 ∷ 0 ∷ 0 ∷ 0 ∷ 0 ∷ 0 ∷ 0 ∷ 0 ∷ 0 ∷ 0 ∷ 1 ∷ 2 ∷ 3 ∷ 0 ∷ 0 ∷ 4 ∷ 5 ∷ 0 ∷ 0 ∷ 0 ∷ 0 ∷ 0 ∷ 0 ∷ 0 ∷ 0 ∷ 0 ∷ 0 ∷ 8 ∷
+    7 ∷ 0 ∷ 0 ∷ 13 ∷ 0 ∷ 11 ∷ 0 ∷ 0 ∷ 0 ∷ 12 ∷ 0 ∷ 0 ∷ 0 ∷ 14 ∷ 0 ∷ 0 ∷ 15 ∷ 0 ∷ 0 ∷ 16 ∷ 0 ∷ 0 ∷ 0 ∷ 0 ∷ 0 ∷ 0 ∷ 0 ∷ 0 ∷
+    0 ∷ 0 ∷ 0 ∷ 0 ∷ 0 ∷ 0 ∷ 0 ∷ 0 ∷ 0 ∷ 17 ∷ 0 ∷ 0 ∷ 0 ∷ 0 ∷ 18 ∷ []
+
 -- The kind of record that an element yields in a context where sets of roles have the kind `sets`.
 unfoldable pub kind_by : ℕ → ℕ → ℕ
-kind_by sets id = cond (eqb id 23) sets (get_or KINDS id 0)
+kind_by sets id = cond (eqb id 23) sets (get_or kind_list id 0)
 
 -- The kind of a set of roles after the tag of an element.
 abbrev pub sets_by : ℕ → ℕ → ℕ
