@@ -33,11 +33,15 @@ no_walls p s u object e =
     ap (λ (x : List Walled). some_number_below 16 (apart (block_of x object) ((lower_tables p s).sessions.bound_to u))) none ∙
     nobody ((lower_tables p s).sessions.bound_to u) object
 
-pub walls-between : (t : Lower) (a object u : ℕ) (f g : ℕ → Maybe ℕ) → u ≡ t.sessions.user a → f ≡ block_of t.policy.walls object → g ≡ t.sessions.bound_to u
-    → some_number_below 16 (apart f g) ≡ wall_between t (t.sessions.user a) object
+pub walls-between : (t : Lower) (u object : ℕ) (f g : ℕ → Maybe ℕ) → f ≡ block_of t.policy.walls object → g ≡ t.sessions.bound_to u
+    → some_number_below 16 (apart f g) ≡ wall_between t u object
 unfolding wall_between
-walls-between t a object u f g e d k =
-    ap₂ (λ (x y : ℕ → Maybe ℕ). some_number_below 16 (apart x y)) d k ∙ ap (λ (n : ℕ). wall_between t n object) e
+walls-between t u object f g d e = ap₂ (λ (x y : ℕ → Maybe ℕ). some_number_below 16 (apart x y)) d e
+
+-- The same for the user of a subject.
+pub walls-of-user : (t : Lower) (a object u : ℕ) (f g : ℕ → Maybe ℕ) → u ≡ t.sessions.user a → f ≡ block_of t.policy.walls object → g ≡ t.sessions.bound_to u
+    → some_number_below 16 (apart f g) ≡ wall_between t (t.sessions.user a) object
+walls-of-user t a object u f g e d k = walls-between t u object f g d k ∙ ap (λ (n : ℕ). wall_between t n object) e
 
 pub committed : (t : Lower) (a object u : ℕ) (f g h : ℕ → Maybe ℕ) → u ≡ t.sessions.user a → f ≡ block_of t.policy.walls object →
     g ≡ t.sessions.bound_to u → h ≡ over f g

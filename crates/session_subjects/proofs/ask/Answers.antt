@@ -4,7 +4,7 @@ use borrow.Author.Tests.{ne_eqb}
 use Rattle.std.proofs.lemmas.Result.{err_from_is_err_and}
 use Rattle.replies.proofs.DoneLaws.{refused, done}
 use Rattle.sessions.specs.Lower.{lower_tables}
-use Rattle.session_subjects.proofs.WallLaws.{stopped, walled, walls-between, committed}
+use Rattle.session_subjects.proofs.WallLaws.{stopped, walled, walls-of-user, committed}
 use Rattle.session_subjects.proofs.ask.Goals as goal
 
 pub returns-in_err-open_reply : goal.returns-in_err-open_reply
@@ -17,21 +17,21 @@ pub returns-then-between : goal.returns-then-between
 returns-then-between c =
     let z = c.args in
     let t = lower_tables z.p.now z.s.now in
-    let w = c.between.ensures ∙ walls-between t z.a z.object _ _ _ c.user-user.ensures.0 c.blocks_of-own.ensures c.bound_to-bound.ensures in
+    let w = c.between.ensures ∙ walls-of-user t z.a z.object _ _ _ c.user-user.ensures.0 c.blocks_of-own.ensures c.bound_to-bound.ensures in
     refused (sym (walled t z.a z.operation z.object c.in_ok-open_reply.ensures w ∙ rw c.if-between.true))
 
 pub returns-then-kind-eq-CHECK : goal.returns-then-kind-eq-CHECK
 returns-then-kind-eq-CHECK c =
     let z = c.args in
     let t = lower_tables z.p.now z.s.now in
-    let w = c.between.ensures ∙ walls-between t z.a z.object _ _ _ c.user-user.ensures.0 c.blocks_of-own.ensures c.bound_to-bound.ensures in
+    let w = c.between.ensures ∙ walls-of-user t z.a z.object _ _ _ c.user-user.ensures.0 c.blocks_of-own.ensures c.bound_to-bound.ensures in
     done (sym (walled t z.a z.operation z.object c.in_ok-open_reply.ensures w ∙ rw c.if-between.false)) (rw c.if-kind-eq-CHECK.true)
 
 pub returns : goal.returns
 returns c =
     let z = c.args in
     let t = lower_tables z.p.now z.s.now in
-    let w = c.between.ensures ∙ walls-between t z.a z.object _ _ _ c.user-user.ensures.0 c.blocks_of-own.ensures c.bound_to-bound.ensures in
+    let w = c.between.ensures ∙ walls-of-user t z.a z.object _ _ _ c.user-user.ensures.0 c.blocks_of-own.ensures c.bound_to-bound.ensures in
     done (sym (walled t z.a z.operation z.object c.in_ok-open_reply.ensures w ∙ rw c.if-between.false))
     (rw (ne_eqb z.kind 56 c.if-kind-eq-CHECK.false)
     (c.set_bound_to.ensures ∙
