@@ -10,8 +10,10 @@ ghost use Rattle.engine.specs.Settling.{SettledExported};
 fn general(bytes: &[u8], policy: &mut [u64], sessions: &mut [u64], orders: &mut [u64]) -> u64
     ensures { SettledExported bytes.now (buffers policy.old sessions.old orders.old) (buffers policy.new sessions.new orders.new) result }
 {
-    let outcome = engine::settled_request(&*bytes, policy, sessions, orders);
-    replies::number(replies::reply(outcome)) + 256 * replies::place(outcome)
+    match engine::settled_request(&*bytes, policy, sessions, orders) {
+        Ok(()) => 0,
+        Err(refused) => u64::from(refused.refusal) + 256 * refused.place,
+    }
 }
 
 // Performs one request without checking the links; it requires nothing of its caller. On sound links, which mishantral_settle and a load leave and this call

@@ -21,25 +21,27 @@ use replies::{Outcome, Refusal, Refused, Reply, plain};
 use sessions::{SESSIONS_WORDS, SessionsBuffer};
 
 // Performs a request that has passed SHAPE and RANGE, without checking the links. Kinds that need entries, orders or claim rules are handled here, all others
-// by the lower part. Only a claim's reply carries a place.
+// by the lower part. Only a claim's reply carries a place. The other replies become an outcome in one place, at the end
+// (DECISIONS D265).
 fn step(r: Record, p: &mut PolicyBuffer, s: &mut SessionsBuffer, o: &mut OrdersBuffer) -> Outcome
     requires { Limits request_forms r }
     ensures { AnyStep r (buffers p.old s.old o.old) (buffers p.new s.new o.new) result }
 {
     let kind = r.kind;
-    match kind {
-        33 => plain(order_requests::delete(p, s, o, r.a)),
-        41 => plain(order_requests::destroy(s, o, r.a)),
-        48 => plain(order_requests::open_order(p, o, r.a, r.b)),
-        49 => plain(order_requests::end_order(o, r.a)),
-        50 => order_claims::claim(p, s, o, r.a, r.b, r.c),
-        51 => plain(order_claims::release(p, s, o, r.a, r.b, r.c)),
-        52 => plain(order_claims::finish(p, s, o, r.a, r.b, r.c)),
-        57 => plain(order_claims::task_check_reply(p, s, o, r.a, r.b, r.c, r.m)),
-        58 => plain(order_requests::figures_reply(o, r.a)),
-        60 => plain(order_stuck::judge(p, r.a)),
-        _ => plain(lower::step(r, p, s)),
-    }
+    let reply = match kind {
+        33 => order_requests::delete(p, s, o, r.a),
+        41 => order_requests::destroy(s, o, r.a),
+        48 => order_requests::open_order(p, o, r.a, r.b),
+        49 => order_requests::end_order(o, r.a),
+        50 => return order_claims::claim(p, s, o, r.a, r.b, r.c),
+        51 => order_claims::release(p, s, o, r.a, r.b, r.c),
+        52 => order_claims::finish(p, s, o, r.a, r.b, r.c),
+        57 => order_claims::task_check_reply(p, s, o, r.a, r.b, r.c, r.m),
+        58 => order_requests::figures_reply(o, r.a),
+        60 => order_stuck::judge(p, r.a),
+        _ => lower::step(r, p, s),
+    };
+    plain(reply)
 }
 
 // Performs such a request on links that are not sound. That state reads as the empty engine, which grants only one request: to add a user without roles.
@@ -79,7 +81,9 @@ pub fn fit(policy: usize, sessions: usize, orders: usize) -> bool
     (policy == POLICY_WORDS) & (sessions == SESSIONS_WORDS) & (orders == ORDERS_WORDS)
 }
 
-// Performs one request, given as any bytes, on any content of the buffers.
+// Performs one request, given as any bytes, on any content of the buffers. It is inlined, so that its outcome is not copied on its way to the caller
+// (DECISIONS D265).
+#[inline(always)]
 pub fn request(
     bytes: &[u8],
     policy: &mut [u64],

@@ -62,18 +62,21 @@ pub fn is_at(s: &[u8], at: usize, b: u8) -> bool
 
 // ---- Searches. A test of bytes is a parameter; the contracts hold for every property of bytes that the test decides.
 
-// The index of the first byte from `at` on that does not pass; the length of the text if all pass.
+// The index of the first byte from `at` on that does not pass; the length of the text if all pass. There is one way out, which keeps the copies of this loop in
+// `skip_misc` short (DECISIONS D265).
 pub fn first_not<F: Fn(u8) -> bool>(s: &[u8], at: usize, passes: F) -> usize
     requires inside { at ≤ length s.now }
     requires callable { F.IsAlwaysCallable passes }
     ensures { (p : ℕ → Bool) → Decides (F.post passes) p → From s.now (behind p (drop at s.now)) result }
 {
+    let mut end = at;
     for i in at..s.len() {
         if !passes(s[i]) {
-            return i;
+            break;
         }
+        end = i + 1;
     }
-    s.len()
+    end
 }
 
 // Whether the eight bytes from i on pass.

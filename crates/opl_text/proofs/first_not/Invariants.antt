@@ -5,4 +5,4 @@ use Rattle.opl_text.specs.Steps.{Decides}
 use Rattle.opl_text.proofs.first_not.Given as goal
 
 abbrev pub invariant-loop-i : goal.invariant-loop-i
-invariant-loop-i g l = (p : ℕ → Bool) → Decides (goal.F-post g l.passes) p → behind p (drop l.at l.s) ≡ behind p (drop l.i l.s)
+invariant-loop-i g l = (l.end ≡ l.i) × ((p : ℕ → Bool) → Decides (goal.F-post g l.passes) p → behind p (drop l.at l.s) ≡ behind p (drop l.i l.s))
